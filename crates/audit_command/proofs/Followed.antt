@@ -42,7 +42,8 @@ few_entries : (log : List ℕ) → length (log_entries OfStream log) ≤ 1677721
 unfolding log_entries
 few_entries log = few_found OfStream 16777216 0 log
 
-longer : (found : List Found) (past : List LogEntry) → length (with_judged_entries past found) ≡ length past + length found
+longer : (found : List Found) (past : List LogEntry) → length (with_judged_entries past found)
+    ≡ length past + length found
 longer [] past = omega arith
 longer (x ∷ more) past = let r = longer more (judged_as x.entry x.bytes ∷ past) in omega (arith, r)
 

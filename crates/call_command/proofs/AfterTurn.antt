@@ -50,10 +50,12 @@ use Rattle.call_command.proofs.Lines.{nothing_after}
 -- ---- a line that was read
 
 -- the parts stood at the state before it
-pub stood_after : (x : CallParts) (s : CallState) (inputs : Role → List ℕ) → PartsStand x s inputs → x.terms.plain ≡ false
+pub stood_after : (x : CallParts) (s : CallState) (inputs : Role → List ℕ) → PartsStand x s inputs → x.terms.plain
+    ≡ false
     → (trace : TracePlace) (left : Option (List ℕ)) → trace.lines ≡ x.link.trace.lines + 1
     → Passes (inputs Events) trace left
-    → StoodBefore (record x { link = record x.link { trace = trace } }) (call_state_of x s.before s.frames s.past) inputs
+    → StoodBefore (record x { link = record x.link { trace = trace } }) (call_state_of x s.before s.frames s.past)
+    inputs
 stood_after x s inputs k recorded trace left lines passes = record {
   is = λ i. record (call_state_of x s.before s.frames s.past) { lines = sym lines i; ended = sym passes.ends i };
   begun = k.begun;
@@ -105,7 +107,8 @@ module _ (x : CallParts) (s : CallState) (inputs : Role → List ℕ) (k : Stood
       (number : line ≡ s.lines + 1) (fault : TraceFault) (fault_is : fault ≡ fault_on_line line told) where
     event_refused : (e : Event) (step : Step CallState)
         → IsAllowed (Err told) e (refusal_after p s.before s.frames s.past e)
-        → Ended (unless_refused (s.lines + 1) trace e (refusal_at by_ends s e) step) (TraceRefused fault) inputs before mid
+        → Ended (unless_refused (s.lines + 1) trace e (refusal_at by_ends s e) step) (TraceRefused fault) inputs before
+        mid
     event_refused e step refused =
         let told_so = refused.2 in
         line_refused s inputs before mid taken laws (TraceRefused fault) (fault_told (s.lines + 1) e refused.0) _
@@ -130,7 +133,8 @@ module _ (x : CallParts) (s : CallState) (inputs : Role → List ℕ) (k : Stood
   -- where a capture is not far, its frame is asked for
   pub capture_is : refusal_at by_ends s Send ≡ None → event_step by_ends s inputs trace says.Send
       ≡ capture_step s trace (inputs Video)
-  capture_is none = ap (λ (o : Option Refusal). unless_refused (s.lines + 1) trace Send o (capture_step s trace (inputs Video))) none
+  capture_is none = ap (λ (o : Option Refusal). unless_refused (s.lines + 1) trace Send o (capture_step s trace
+      (inputs Video))) none
 
   pub packet_is : (n j : ℕ) → refusal_after p s.before s.frames s.past (Deliver n j) ≡ None
       → event_step by_ends s inputs trace (says.Packet n j)

@@ -85,7 +85,8 @@ alone_under_way x lines more kept talk run inputs start now u =
       written = u.written;
     }
 
-module _ (x : CallParts) (before : List ReceiverEntry) (inputs : Role → List ℕ) (now : Outside) (lines : x.link.trace.lines
+module _ (x : CallParts) (before : List ReceiverEntry) (inputs : Role → List ℕ) (now : Outside)
+    (lines : x.link.trace.lines
     ≡ 0) (more : x.video.more ≡ 1048576)
     (kept : PartsStand x (call_at_start x.terms before x.video.at) inputs) (told : Tells now inputs) where
   abbrev first : CallState

@@ -42,7 +42,8 @@ plainly x s inputs is plain P holds =
     (subst (λ (step : Step CallState). P step (may_read here)) (sym same) holds)
 
 -- or of a recorded one
-pub line_by_line : (x : CallParts) (s : CallState) (inputs : Role → List ℕ) → s ≡ call_state_of x s.before s.frames s.past
+pub line_by_line : (x : CallParts) (s : CallState) (inputs : Role → List ℕ) → s ≡ call_state_of x s.before s.frames
+    s.past
     → x.terms.plain ≡ false
     → (P : Step CallState → Bool → Type 0)
     → P (trace_step by_ends (call_state_of x s.before s.frames s.past) inputs (inputs Events))
@@ -63,7 +64,8 @@ pub done_now : (x : CallParts) (s : CallState) → ((later : List Frame) → Has
 done_now x s holds = subst (λ (l : List Frame). HasDone x s.before l s.past) (append-nil s.frames) (holds [])
 
 -- the line of the counts is that of the state
-pub counts_are : (x : CallParts) → WayLaws x.terms.params → (s : CallState) (inputs : Role → List ℕ) → PartsStand x s inputs
+pub counts_are : (x : CallParts) → WayLaws x.terms.params → (s : CallState) (inputs : Role → List ℕ)
+    → PartsStand x s inputs
     → counts_of (tally_of (way_of x.link.network)) x.receiver.played x.sender.sent
     ≡ call_text (by_ends (call_state_of x s.before s.frames s.past))
 counts_are x laws s inputs k =
@@ -226,7 +228,8 @@ module _ (x y : World) (old new : Outside) where
       → TakesTurn x y r old new
   turn_was_cut r status is names kind rose rest gives =
       was_cut x y old new _ _ _ _ r status is names kind rose rest
-      (begun (call_parts x) old (λ o s inputs. GainsFronts (step_texts (talk_step s inputs)) o.written new.written) gives)
+      (begun (call_parts x) old (λ o s inputs. GainsFronts (step_texts (talk_step s inputs)) o.written new.written)
+      gives)
 
   pub turn_is_over : names_of y ≡ names_of x → KeepsRoles old new
       → ((s : CallState) (inputs : Role → List ℕ) → PartsStand (call_parts x) s inputs → Tells old inputs

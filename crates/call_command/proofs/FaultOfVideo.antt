@@ -92,7 +92,8 @@ module _ (frame_laws : FrameLaws) (fault : Y4mFault) where
       -- an event that may be refused
       at_unless : (e : Event) (o : Option Refusal) (step : Step CallState)
           → (Refuses step → fault_of s.params.format s.more s.at (inputs Video) ≡ Some fault)
-          → Refuses (unless_refused (s.lines + 1) trace e o step) → fault_of s.params.format s.more s.at (inputs Video) ≡ Some fault
+          → Refuses (unless_refused (s.lines + 1) trace e o step) → fault_of s.params.format s.more s.at (inputs Video)
+          ≡ Some fault
       at_unless e None step later ends = later ends
       at_unless e (Some refusal) step later ends = absurd (cc ends)
 

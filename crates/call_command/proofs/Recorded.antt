@@ -215,7 +215,8 @@ module _ (p : Params) (all : List Frame) (broken : Option Y4mFault) (later : Lat
             ∙ ap (λ (l : List ℕ). Some (line_size l)) (ap (λ (l : List ℕ). drop (taken_of run.turns Events) l)
             (sym gone) ∙ drop-drop (taken_of run.turns Events) (turn.taken Events) text);
         may = (may, comes.may);
-        end = subst (λ (j : ℕ). IsCallEnd p all broken F j (with_lines p all now comes.lines) comes.refused run.last.status)
+        end = subst (λ (j : ℕ). IsCallEnd p all broken F j (with_lines p all now comes.lines) comes.refused
+            run.last.status)
             (one_further m (length comes.lines)) comes.end;
         lines = line ∷ comes.lines;
         refused = comes.refused;

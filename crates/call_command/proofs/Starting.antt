@@ -29,7 +29,8 @@ in_format p f is = record {
   messages_high = is.messages_high;
 }
 
-module _ (x : CallParts) (fresh : IsFreshLink x.terms x.link) (laws : WayLaws x.terms.params) (sender_params : x.sender.params
+module _ (x : CallParts) (fresh : IsFreshLink x.terms x.link) (laws : WayLaws x.terms.params)
+    (sender_params : x.sender.params
     ≡ x.terms.params) (sends : sender_end.Stands (steady x.terms.params) x.sender []) (sent : x.sender.sent
     ≡ 0) (more : x.video.more ≡ 1048576) where
   pub stands_first : (before : List ReceiverEntry) (at : ℕ) (inputs : Role → List ℕ) → x.video.at ≡ at

@@ -152,7 +152,8 @@ module _ (view : View) where
   -- what the line says is done
   abbrev pub event_step : CallState → (Role → List ℕ) → List ℕ → Line → Step CallState
   event_step s inputs trace says.Nothing = Goes (after_line s trace) (line_turn trace no_texts)
-  event_step s inputs trace says.Send = unless_refused (s.lines + 1) trace Send (refusal_at s Send) (capture_step s trace (inputs Video))
+  event_step s inputs trace says.Send = unless_refused (s.lines + 1) trace Send (refusal_at s Send)
+      (capture_step s trace (inputs Video))
   event_step s inputs trace (says.Packet n j) =
       unless_refused (s.lines + 1) trace (Deliver n j) (refusal_at s (Deliver n j))
       (Goes (after_line (with_packet s n j) trace) (line_turn trace no_texts))

@@ -102,7 +102,8 @@ TakesLine x y line event result mid new =
     (λ s inputs. event_step by_ends s inputs (inputs Events) event) (λ _. true) (more_of (call_parts x) + 1)
 
 -- and a frame is asked for that may be captured
-pub record IsAsked (x : CallParts) (line : ℕ) (now old : Outside) (s : CallState) (inputs : Role → List ℕ) : Type 0 where
+pub record IsAsked (x : CallParts) (line : ℕ) (now old : Outside) (s : CallState)
+    (inputs : Role → List ℕ) : Type 0 where
   pub read : IsRead x line now old s inputs
   pub none : refusal_at by_ends s Send ≡ None
 

@@ -33,7 +33,8 @@ use Rattle.demo_command.proofs.Made.{near_onto, steady_is}
 
 -- what is so after a line, by what the line says
 pub as_line : (t : DemoTerms) (past : List Event) (line event : Line) (P : List Event → Type 0) → event ≡ line
-    → (IsNearNow t (with_made_line t past line) → P (with_made_line t past line)) → IsNearNow t (with_made_line t past event)
+    → (IsNearNow t (with_made_line t past line) → P (with_made_line t past line))
+    → IsNearNow t (with_made_line t past event)
     → P (with_made_line t past event)
 as_line t past line event P is so =
     subst (λ (l : Line). IsNearNow t (with_made_line t past l) → P (with_made_line t past l)) (sym is) so
@@ -71,7 +72,8 @@ ready_delivered m r network receiver way played = record {
 }
 
 -- a packet that is near by both ends is among those that are kept
-pub may_deliver : (m : Demo) → LineReady m → NearLaws m.terms.params → (past : List Event) → DemoHasDone m past → (n j : ℕ)
+pub may_deliver : (m : Demo) → LineReady m → NearLaws m.terms.params → (past : List Event) → DemoHasDone m past
+    → (n j : ℕ)
     → IsNearNow m.terms (Deliver n j ∷ past)
     → IsAmongLast (way_of m.network)
     (length (both_after m.terms.params (steady m.terms.params) (made_video m.terms) [] past).sender.coded) n

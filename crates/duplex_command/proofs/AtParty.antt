@@ -37,7 +37,8 @@ module _ (own far own_new far_new : Station) (said : TraceLine) (room : ℕ) (na
 
   read_too : (trace : TracePlace) (old : Outside) (s : DuplexState) (inputs : Role → List ℕ)
       → IsPartyRead x own far said.line trace mid old s inputs
-      → IsPartyRead x own far said.line trace (exchanged_outside na mid) (exchanged_outside na old) s (for_second inputs)
+      → IsPartyRead x own far said.line trace (exchanged_outside na mid) (exchanged_outside na old) s
+      (for_second inputs)
   read_too trace old s inputs b = record {
     stood = b.stood;
     number = b.number;

@@ -67,7 +67,8 @@ module _ (s : DuplexState) (inputs : Role → List ℕ) where
   turn_line : (o : Option (Option (Party × Line))) → IsLineTurn (inputs Events) (lettered_step s inputs o)
   turn_line None = tt
   turn_line (Some None) = (refl, same_size (line_size (inputs Events)))
-  turn_line (Some (Some said)) = turn_event (video_of said.0) (pictures_role said.0) (refused_party_video said.0) said.0 s
+  turn_line (Some (Some said)) = turn_event (video_of said.0) (pictures_role said.0) (refused_party_video said.0) said.0
+      s
       (inputs Events) inputs said.1
 
   turn_choice : (b : Bool) (o : Option (Option (Party × Line)))
@@ -81,5 +82,6 @@ module _ (s : DuplexState) (inputs : Role → List ℕ) where
 
 pub trace_part : LineLaws → (s : DuplexState) (inputs : Role → List ℕ) (k : ℕ) → NoNewline (take k (inputs Events))
     → IsPart (step_turns (duplex_trace_step s inputs (inputs Events))) (of Events k)
-trace_part laws s inputs k free = laws.line_part (inputs Events) k (step_turns (duplex_trace_step s inputs (inputs Events)))
+trace_part laws s inputs k free = laws.line_part (inputs Events) k (step_turns (duplex_trace_step s inputs
+    (inputs Events)))
     free (turn_trace s inputs (inputs Events) refl)

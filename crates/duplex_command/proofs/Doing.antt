@@ -112,7 +112,8 @@ module _ (x : Party) (own far : Station) (line : ℕ) (trace_new : TracePlace) (
     event_refused e step refused =
         let told_so = refused.2 in
         line_refused s inputs before mid b.taken laws (TraceRefused fault) (fault_told (s.lines + 1) e refused.0) _
-        (ap (λ (f : TraceFault). TraceRefused f) fault_is ∙ (λ i. TraceRefused (fault_on_line (b.number i) (told_so i))))
+        (ap (λ (f : TraceFault). TraceRefused f) fault_is ∙ (λ i. TraceRefused (fault_on_line (b.number i)
+        (told_so i))))
         (ap (λ (o : Option Refusal). unless_refused (s.lines + 1) trace e o step) refused.1)
 
     pub line_is_refused : (event : Line) → IsChecked (Err told) event (λ e. party_refusal x s e)
@@ -139,7 +140,8 @@ module _ (x : Party) (own far : Station) (line : ℕ) (trace_new : TracePlace) (
   stands_event own_new far_new ways own_same far_same holds = record {
     own_place = place_same x (after_party_line (record s { ways = ways }) trace) (after_party_line s trace) refl refl
         ∙ b.stood.own_place ∙ ap place_in_video (sym own_same);
-    far_place = place_same (other x) (after_party_line (record s { ways = ways }) trace) (after_party_line s trace) refl refl
+    far_place = place_same (other x) (after_party_line (record s { ways = ways }) trace) (after_party_line s trace) refl
+        refl
         ∙ b.stood.far_place ∙ ap place_in_video (sym far_same);
     lines = b.stood.lines;
     ended = b.stood.ended;
@@ -157,7 +159,8 @@ module _ (x : Party) (own far : Station) (line : ℕ) (trace_new : TracePlace) (
   pub event_goes : TurnLaws → (own_new far_new : Station) (event : Line) (ways : WayRuns Frame)
       → own_new.video ≡ own.video → far_new.video ≡ far.video
       → step_of event ≡ quiet_party_step s trace ways → HoldsPair s.params x own_new.ends far_new.ends ways
-      → Went (step_of event) (λ next rest. StationsStand x own_new far_new trace_new next (rest Events)) talk_may_read true
+      → Went (step_of event) (λ next rest. StationsStand x own_new far_new trace_new next (rest Events)) talk_may_read
+      true
       inputs before mid
   event_goes laws own_new far_new event ways own_same far_same is holds =
       line_goes s inputs before mid b.taken (record s { ways = ways }) no_texts _
@@ -193,13 +196,15 @@ module _ (x : Party) (own far : Station) (line : ℕ) (trace_new : TracePlace) (
       s.ways)
       → StationsStand x own_new far trace_new (after_party_line (with_party_frame x s size out) trace)
       (left_after inputs (and_of taken_line (of Video size)) Events)
-  stands_sent own_new size out place fewer holds = by_party x (place_same (other x) s (after_party_line s trace) refl refl
+  stands_sent own_new size out place fewer holds = by_party x (place_same (other x) s (after_party_line s trace) refl
+      refl
       ∙ b.stood.far_place) b.stood.lines b.stood.ended place_is holds
     where
       less : (a b : ℕ) → a + 1 ≡ b → b - 1 ≡ a
       less a b is = omega (arith, is)
 
-      place_is : record { at = (video_place_of x s).at + size; more = (video_place_of x s).more - 1 } ≡ place_in_video own_new.video
+      place_is : record { at = (video_place_of x s).at + size; more = (video_place_of x s).more - 1 }
+          ≡ place_in_video own_new.video
       place_is = let few = less own_new.video.more (video_place_of x s).more fewer in
           λ i. record { at = sym place i; more = few i }
 
@@ -211,7 +216,8 @@ module _ (x : Party) (own far : Station) (line : ℕ) (trace_new : TracePlace) (
 
       by_party : (y : Party) → video_place_of (other y) s ≡ place_in_video far.video → s.lines + 1 ≡ trace_new.lines
           → (after_party_line s trace).ended ≡ trace_new.ended
-          → record { at = (video_place_of y s).at + size; more = (video_place_of y s).more - 1 } ≡ place_in_video own_new.video
+          → record { at = (video_place_of y s).at + size; more = (video_place_of y s).more - 1 }
+          ≡ place_in_video own_new.video
           → HoldsPair s.params y own_new.ends far.ends
           (with_capture (sides s.params) y (picture_of (s.params y).format out) s.ways)
           → StationsStand y own_new far trace_new (after_party_line (with_party_frame y s size out) trace)
@@ -256,7 +262,8 @@ module _ (x : Party) (own far own_new far_new : Station) (line room : ℕ) (even
       → status ≡ WriteFault → Rose mid.faults.write new.faults.write → KeepsRoles mid new
       → ((trace : TracePlace) (old : Outside) (s : DuplexState) (inputs : Role → List ℕ)
       → IsPartyRead x own far line trace mid old s inputs
-      → GainsFronts (step_texts (party_event_step Video Pictures VideoRefused x s (inputs Events) inputs said)) old.written
+      → GainsFronts (step_texts (party_event_step Video Pictures VideoRefused x s (inputs Events) inputs said))
+      old.written
       new.written)
       → LineTurn event r
   event_cut is r status answer kind rose rest gives = subst (λ (e : Line). LineTurn e r) (sym is)
@@ -276,7 +283,8 @@ line_stops x own far line room event said r status (Err told) now is answer refu
     (λ s inputs. party_event_step Video Pictures VideoRefused x s (inputs Events) inputs said)
     r (TraceRefused (fault_on_line line told)) (subst (λ (w : Status). IsErrAnd r (λ z. z ≡ w)) refused answer) tt tt
     (steps.none now)
-    (λ trace old s inputs b. line_is_refused x own far line trace old now s inputs b lines told (fault_on_line line told)
+    (λ trace old s inputs b. line_is_refused x own far line trace old now s inputs b lines told
+    (fault_on_line line told)
     refl said (checks trace old s inputs b)))
 
 -- one that delivers packets of a picture, of which one tells whether it may be done

@@ -55,7 +55,8 @@ frame_taken n m = fun_ext by_role
     by_role Pictures2 = refl
 
 shown_texts : (x : Party) (n : ℕ) (reference : Option ℕ) (plays : List (Shown Picture))
-    → for_second (newest_texts Pictures (Some (letter_of x)) n reference plays) ≡ newest_texts Pictures2 (Some (letter_of x)) n reference plays
+    → for_second (newest_texts Pictures (Some (letter_of x)) n reference plays) ≡ newest_texts Pictures2
+    (Some (letter_of x)) n reference plays
 shown_texts x n reference [] = refl
 shown_texts x n reference (shown ∷ plays) = fun_ext by_role
   where

@@ -78,7 +78,8 @@ module _ (frame_laws : FrameLaws) (fault : Y4mFault) where
       at_quiet B later ways ends = later _ _ ends
 
       at_end : (x : Party) (e : Event) (o : Option Refusal) (step : Step DuplexState)
-          → (Refuses x step → IsFaulty x s inputs) → Refuses x (unless_refused (s.lines + 1) trace e o step) → IsFaulty x s inputs
+          → (Refuses x step → IsFaulty x s inputs) → Refuses x (unless_refused (s.lines + 1) trace e o step)
+          → IsFaulty x s inputs
       at_end x e None step goes ends = goes ends
       at_end A e (Some refusal) step goes ends = absurd (cc ends)
       at_end B e (Some refusal) step goes ends = absurd (cc ends)
@@ -112,10 +113,12 @@ module _ (frame_laws : FrameLaws) (fault : Y4mFault) where
       at_capture A y later [] same ends = absurd (cc ends)
       at_capture B y later [] same ends = absurd (cc ends)
       at_capture x y later (b ∷ v) same ends =
-          at_captured x y later b v same (next_frame (video_place_of y s).more (s.params y).format (video_place_of y s).at (b ∷ v))
+          at_captured x y later b v same (next_frame (video_place_of y s).more (s.params y).format
+          (video_place_of y s).at (b ∷ v))
           refl ends
 
-      at_play : (x y : Party) → Later x → Refuses x (play_step (video_of y) (pictures_role y) (refused_party_video y) y s trace)
+      at_play : (x y : Party) → Later x → Refuses x (play_step (video_of y) (pictures_role y) (refused_party_video y) y
+          s trace)
           → IsFaulty x s inputs
       at_play A y later ends = later _ _ ends
       at_play B y later ends = later _ _ ends
@@ -149,7 +152,8 @@ module _ (frame_laws : FrameLaws) (fault : Y4mFault) where
     not_many A b trace is ends = absurd (cc (rw is at ends))
     not_many B b trace is ends = absurd (cc (rw is at ends))
 
-    at_trace : (x : Party) → Later x → (trace : List ℕ) → Refuses x (duplex_trace_step s inputs trace) → IsFaulty x s inputs
+    at_trace : (x : Party) → Later x → (trace : List ℕ) → Refuses x (duplex_trace_step s inputs trace)
+        → IsFaulty x s inputs
     at_trace A later [] ends = absurd (cc ends)
     at_trace B later [] ends = absurd (cc ends)
     at_trace x later (b ∷ trace) ends = within (nat_lt s.lines 16777216) refl ends

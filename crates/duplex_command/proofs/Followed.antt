@@ -98,8 +98,10 @@ module _ (q : Params) (f g : Format) (inputs : Role → List ℕ) where
 
         ahead : (x : Party) → drop (length (way {Frame = Frame} x no_runs).frames) (captures x)
             ≡ map (λ planes. picture_of (p x).format planes)
-            (frames_of (p x).format (video_place_of x (state p captures broken laws no_runs (first A) (first B) 0 false)).more
-            (video_place_of x (state p captures broken laws no_runs (first A) (first B) 0 false)).at (left (video_of x)))
+            (frames_of (p x).format (video_place_of x (state p captures broken laws no_runs (first A) (first B) 0
+            false)).more
+            (video_place_of x (state p captures broken laws no_runs (first A) (first B) 0 false)).at
+            (left (video_of x)))
         ahead A = all_ahead A
         ahead B = all_ahead B
 
@@ -123,12 +125,14 @@ module _ (q : Params) (f g : Format) (inputs : Role → List ℕ) where
     end_is : AreCallsEnded p captures broken (fault_in 16777216 1 (inputs Events)) (length comes.lines + 1)
         (with_all_lettered p captures [] comes.lines) comes.refused run.last.status
     end_is = subst (λ (m : ℕ). AreCallsEnded p captures broken (fault_in 16777216 1 (inputs Events)) m
-        (with_all_lettered p captures [] comes.lines) comes.refused run.last.status) (one_more (length comes.lines)) comes.end
+        (with_all_lettered p captures [] comes.lines) comes.refused run.last.status) (one_more (length comes.lines))
+        comes.end
 
     -- the head of each party's pictures is written first
     shown_first : (x : Party) → (both_heads f g (pictures_role x) ++ texts_of run.turns (pictures_role x))
         ++ run.last.texts (pictures_role x)
-        ≡ head_text (p x).format ++ shown_text (party_call_after p captures x (with_all_lettered p captures [] comes.lines)).plays
+        ≡ head_text (p x).format ++ shown_text (party_call_after p captures x (with_all_lettered p captures []
+        comes.lines)).plays
     shown_first A =
         ap (λ (l : List ℕ). (l ++ texts_of run.turns (pictures_role A)) ++ run.last.texts (pictures_role A))
         (append-nil (head_text f))

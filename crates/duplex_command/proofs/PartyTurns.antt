@@ -55,7 +55,8 @@ module _ (x : Party) (own far : Station) (mid new : Outside) (room : ℕ)
   -- one that goes on
   pub went_on : StationsReady own far room → KeepsRoles mid new
       → ((trace : TracePlace) (old : Outside) (s : DuplexState) (inputs : Role → List ℕ) → Begins trace old s inputs
-      → Went (step s inputs) (λ next rest. StationsStand x own far trace next (rest Events)) talk_may_read true inputs old
+      → Went (step s inputs) (λ next rest. StationsStand x own far trace next (rest Events)) talk_may_read true inputs
+      old
       new)
       → IsPartyTurn x own far (Ok true) mid new room Begins step
   went_on ready rest gives = record {

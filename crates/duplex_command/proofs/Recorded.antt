@@ -157,7 +157,8 @@ module _ (p : Party → Params) (captures : Party → List Picture) (broken : Pa
 
   -- where it refuses a video, nothing is taken of the other one
   abbrev Spares : Status → (Role → Option ℕ) → Type 0
-  Spares status taken = (x : Party) (fault : Y4mFault) → status ≡ refused_party_video x fault → taken (video_of (other x))
+  Spares status taken = (x : Party) (fault : Y4mFault) → status ≡ refused_party_video x fault
+      → taken (video_of (other x))
       ≡ Some 0
 
   no_video_refused : (fault : TraceFault) (taken : Role → Option ℕ) → Spares (status_with fault) taken
@@ -169,7 +170,8 @@ module _ (p : Party → Params) (captures : Party → List Picture) (broken : Pa
   none_refused taken B broken is = absurd (cc is)
 
   one_refused : (size : ℕ) (y : Party) (broken : Y4mFault)
-      → Spares (refused_party_video y broken) (video_refusal (video_of y) (of Events size) (refused_party_video y broken)).taken
+      → Spares (refused_party_video y broken) (video_refusal (video_of y) (of Events size) (refused_party_video y
+      broken)).taken
   one_refused size A broken A fault is = refl
   one_refused size A broken B fault is = absurd (cc is)
   one_refused size B broken A fault is = absurd (cc is)
@@ -212,7 +214,8 @@ module _ (p : Party → Params) (captures : Party → List Picture) (broken : Pa
   -- a fault of the trace ends it
   comes_faulty : (past : List Lettered) → Near past
       → (E : List LineEvent) (F : Option TraceFault) (m : ℕ) (rest : DuplexState → (Role → ℕ) → Run)
-      (fault : TraceFault) (taken : Role → Option ℕ) → AreCallsEnded p captures broken F (m + 0) past E (status_with fault)
+      (fault : TraceFault) (taken : Role → Option ℕ) → AreCallsEnded p captures broken F (m + 0) past E
+      (status_with fault)
       → Comes past E F m (follow (Ends (record { status = status_with fault; taken = taken; texts = no_texts })) rest)
   comes_faulty past near E F m rest fault taken end = comes_stopped past near E F m rest (status_with fault) taken
       (λ text. refl) (no_video_refused fault taken) end
@@ -263,7 +266,8 @@ module _ (p : Party → Params) (captures : Party → List Picture) (broken : Pa
       in
       record {
         may = (may, comes.may);
-        end = subst (λ (j : ℕ). AreCallsEnded p captures broken F j (Withs now comes.lines) comes.refused run.last.status)
+        end = subst (λ (j : ℕ). AreCallsEnded p captures broken F j (Withs now comes.lines) comes.refused
+            run.last.status)
             (one_further m (length comes.lines)) comes.end;
         others = comes.others;
         lines = line ∷ comes.lines;
@@ -274,7 +278,8 @@ module _ (p : Party → Params) (captures : Party → List Picture) (broken : Pa
         pictures = λ x.
             comes.pictures x
             ∙ ap (λ (l : Text). l ++ text_of run (pictures_role x)) (pictures x)
-            ∙ append_assoc (shown_text (call x past).plays) (turn.texts (pictures_role x)) (text_of run (pictures_role x))
+            ∙ append_assoc (shown_text (call x past).plays) (turn.texts (pictures_role x)) (text_of run
+            (pictures_role x))
             ∙ ap (λ (l : Text). shown_text (call x past).plays
             ++ l) (sym (append_assoc (turn.texts (pictures_role x)) (texts_of run.turns (pictures_role x))
             (run.last.texts (pictures_role x))));
@@ -335,10 +340,12 @@ module _ (p : Party → Params) (captures : Party → List Picture) (broken : Pa
       -- a refusal ends the call
       abbrev IsWhy : LineEvent → Party → Event → Type 0
       IsWhy line x e = (r : Refusal) → party_refusal x s e ≡ Some r
-          → AreCallsEnded p captures broken F (lines + 1 + 0) past (line ∷ E) (TraceRefused (fault_told (lines + 1) e r))
+          → AreCallsEnded p captures broken F (lines + 1 + 0) past (line ∷ E) (TraceRefused (fault_told (lines + 1) e
+          r))
 
       unless_comes : (line : LineEvent) (x : Party) (e : Event) (o : Option Refusal) (step : Step DuplexState)
-          → party_refusal x s e ≡ o → IsWhy line x e → (o ≡ None → Takes line step) → Takes line (unless_refused (s.lines + 1) trace e o step)
+          → party_refusal x s e ≡ o → IsWhy line x e → (o ≡ None → Takes line step)
+          → Takes line (unless_refused (s.lines + 1) trace e o step)
       unless_comes line x e None step found why takes = takes refl
       unless_comes line x e (Some r) step found why takes = comes_faulty past near (line ∷ E) F (lines + 1) rest _ _
           (why r found)
@@ -373,7 +380,8 @@ module _ (p : Party → Params) (captures : Party → List Picture) (broken : Pa
 
       -- a capture that is too far is told so, whatever fault the video has
       far_told : (x : Party) (r : Refusal) → party_refusal x s Send ≡ Some r
-          → IsRefusedPartyCapture p captures (broken x) (lines + 1 + 0) past x (TraceRefused (fault_told (lines + 1) Send r))
+          → IsRefusedPartyCapture p captures (broken x) (lines + 1 + 0) past x (TraceRefused (fault_told (lines + 1)
+          Send r))
       far_told x r is =
           let c = call x past in (
             r,
@@ -384,7 +392,8 @@ module _ (p : Party → Params) (captures : Party → List Picture) (broken : Pa
           )
 
       -- no frame is left
-      none_left : (x : Party) → captures_at x (video_place_of x s) (inputs (video_of x)) ≡ [] → party_refusal x s Send ≡ None
+      none_left : (x : Party) → captures_at x (video_place_of x s) (inputs (video_of x)) ≡ [] → party_refusal x s Send
+          ≡ None
           → refusal_of (sides p) (length (captures x)) x Send met ≡ Some NoPicture
       none_left x nothing is =
           let c = call x past in
@@ -447,7 +456,8 @@ module _ (p : Party → Params) (captures : Party → List Picture) (broken : Pa
       all_comes x n o =
           let count = length (slices_at (call x past).coded n) in
           let may = (laws.none (length (call x past).coded + 1) x (Deliver n 0) met).0 o in
-          quiet (Some (x, says.All n)) (with_party_packets p captures x n count past) (with_places p x n count met) refl may
+          quiet (Some (x, says.All n)) (with_party_packets p captures x n count past) (with_places p x n count met) refl
+          may
           (ways_packets p captures x n count past)
           (near_packets p captures x n 0 count past may near)
           (kept_places p x n count met) (told_packets p captures x n count past)
@@ -467,7 +477,8 @@ module _ (p : Party → Params) (captures : Party → List Picture) (broken : Pa
       played_sent B B = refl
 
       abbrev play_turn : Party → Turn
-      play_turn x = line_turn trace (party_play_texts (pictures_role x) x (seen_of x (with_next x s)) (seen_of x s).played)
+      play_turn x = line_turn trace (party_play_texts (pictures_role x) x (seen_of x (with_next x s))
+          (seen_of x s).played)
 
       played_pictures : (x y : Party) → shown_text (call y (with_event p captures x Play past)).plays
           ≡ shown_text (call y past).plays ++ (play_turn x).texts (pictures_role y)
@@ -562,7 +573,8 @@ module _ (p : Party → Params) (captures : Party → List Picture) (broken : Pa
               ∙ ap (λ (l : List ℕ). captures_at A (next_place A frame) l) (sym (frame_gone A frame))
           aheads B = on.ahead B
 
-          faults : (y : Party) → fault_at y (video_place_of y (after_party_line (with_party_frame A s frame planes) trace))
+          faults : (y : Party) → fault_at y (video_place_of y (after_party_line (with_party_frame A s frame planes)
+              trace))
               (left_after inputs (takes_frame A frame) (video_of y)) ≡ broken y
           faults A = ap (λ (l : List ℕ). fault_at A (next_place A frame) l) (frame_gone A frame) ∙ still
           faults B = on.fault B
@@ -586,7 +598,8 @@ module _ (p : Party → Params) (captures : Party → List Picture) (broken : Pa
               ap (λ (m : ℕ). drop m (captures B)) (longer (way B met).frames _) ∙ ahead
               ∙ ap (λ (l : List ℕ). captures_at B (next_place B frame) l) (sym (frame_gone B frame))
 
-          faults : (y : Party) → fault_at y (video_place_of y (after_party_line (with_party_frame B s frame planes) trace))
+          faults : (y : Party) → fault_at y (video_place_of y (after_party_line (with_party_frame B s frame planes)
+              trace))
               (left_after inputs (takes_frame B frame) (video_of y)) ≡ broken y
           faults A = on.fault A
           faults B = ap (λ (l : List ℕ). fault_at B (next_place B frame) l) (frame_gone B frame) ∙ still
@@ -597,8 +610,10 @@ module _ (p : Party → Params) (captures : Party → List Picture) (broken : Pa
 
       -- a frame is sent
       captured_comes : (x : Party) (b : ℕ) (v : List ℕ) → inputs (video_of x) ≡ b ∷ v → party_refusal x s Send ≡ None
-          → (r : Result (List ℕ) Y4mFault) → next_frame (video_place_of x s).more (p x).format (video_place_of x s).at (b ∷ v) ≡ r
-          → Takes (Some (x, says.Send)) (party_captured_step (video_of x) (pictures_role x) (refused_party_video x) x s trace
+          → (r : Result (List ℕ) Y4mFault) → next_frame (video_place_of x s).more (p x).format (video_place_of x s).at
+          (b ∷ v) ≡ r
+          → Takes (Some (x, says.Send)) (party_captured_step (video_of x) (pictures_role x) (refused_party_video x) x s
+          trace
           (frame_size (p x).format (b ∷ v)) r)
       captured_comes x b v video o (Err fault) found =
           let place = video_place_of x s in
@@ -657,7 +672,8 @@ module _ (p : Party → Params) (captures : Party → List Picture) (broken : Pa
           (frame_on x planes frame ahead still is ((below, may.1), near))
 
       send_comes : (x : Party) (video : List ℕ) → inputs (video_of x) ≡ video → party_refusal x s Send ≡ None
-          → Takes (Some (x, says.Send)) (party_capture_step (video_of x) (pictures_role x) (refused_party_video x) x s trace video)
+          → Takes (Some (x, says.Send)) (party_capture_step (video_of x) (pictures_role x) (refused_party_video x) x s
+          trace video)
       send_comes x [] there o =
           let place = video_place_of x s in
           let ends = frame_laws.ends (p x).format place.more place.at in

@@ -68,7 +68,8 @@ module _ (x y : Talk) (old new : Outside) where
       → GivesUp (phase status) status (duplex_step s inputs) (talk_may_read s) inputs old new)
       → TalkTakesTurn x y r old new
   turn_gave_up (Ok b) status is stop cause rest gives = absurd is
-  turn_gave_up (Err z) status is stop cause rest gives = subst (λ (w : Status). TalkTakesTurn x y (Err w) old new) (sym is)
+  turn_gave_up (Err z) status is stop cause rest gives = subst (λ (w : Status). TalkTakesTurn x y (Err w) old new)
+      (sym is)
       (record {
         gives = gives;
         whole = λ s inputs k told. tt;
@@ -86,7 +87,8 @@ module _ (x y : Talk) (old new : Outside) where
       → GainsFronts (step_texts (duplex_step s inputs)) old.written new.written)
       → TalkTakesTurn x y r old new
   turn_was_cut (Ok b) status is kind rose rest gives = absurd is
-  turn_was_cut (Err z) status is kind rose rest gives = subst (λ (w : Status). TalkTakesTurn x y (Err w) old new) (sym (is
+  turn_was_cut (Err z) status is kind rose rest gives = subst (λ (w : Status). TalkTakesTurn x y (Err w) old new)
+      (sym (is
       ∙ kind)) (record {
         gives = gives;
         whole = λ s inputs k told. tt;
@@ -230,12 +232,14 @@ module _ (lines : LineLaws) (steps : StepLaws) (m : Talk) (after : TracePlace) (
         (sym trace_is)
         (subst (λ (step : Step DuplexState). TurnGives r step stands talk_may_read (talk_may_read s) inputs old new)
         (sym (step_is s inputs k told (Some (Some (said.party, said.event))) (said_so (fits s inputs k told))))
-        (subst (λ (b : Bool). TurnGives r (party_step said.party s inputs said.event) stands talk_may_read b inputs old new)
+        (subst (λ (b : Bool). TurnGives r (party_step said.party s inputs said.event) stands talk_may_read b inputs old
+        new)
         (sym (could s inputs k told))
         (t.gives after old s inputs (subst (λ (n : ℕ). IsPartyRead A m.a m.b n after mid old s inputs) (sym number)
         (line_read s inputs k told)))));
     whole = λ s inputs k told. never r (new.left Events ≡ Some []) t.goes_on;
-    falls = falls_so r (talk_lines_left m) (talk_lines_left y) (ap (λ (reader : TracePlace). 16777216 - reader.lines + 1) trace_is
+    falls = falls_so r (talk_lines_left m) (talk_lines_left y) (ap (λ (reader : TracePlace). 16777216 - reader.lines +
+        1) trace_is
         ∙ fewer);
     ready = ready_so r (StationsReady y.a y.b room) (TalkReady y new.attached)
         (λ stations. record {

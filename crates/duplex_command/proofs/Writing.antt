@@ -47,7 +47,8 @@ row_is p x ways laws letter number mark reference picture letter_is number_is ma
     ∙ ap (λ coded. reference_in coded n) (sym laws.coded) in
     (λ i. then_also (on Pictures (frame_text (mark_is i) (picture_is i)))
     (on Report (picture_text (number_is i) (Some (mark_is i)) (Some (told i)) (Some (letter_is i)))))
-    ∙ sym (ap (λ (plays : List (Shown Picture)). newest_texts Pictures (Some (letter_of x)) n (reference_in after.coded n) plays)
+    ∙ sym (ap (λ (plays : List (Shown Picture)). newest_texts Pictures (Some (letter_of x)) n (reference_in after.coded
+    n) plays)
     laws.plays)
 
 -- ---- two lines of the report

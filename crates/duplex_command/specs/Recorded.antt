@@ -147,7 +147,8 @@ module _ (p : Party → Params) (captures : Party → List Picture) where
   -- each of these lines' events is, after those of the lines before it
   abbrev pub AllLetteredMayHappen : List Lettered → List LineEvent → Type 0
   AllLetteredMayHappen past [] = Unit {0}
-  AllLetteredMayHappen past (line ∷ lines) = LetteredMayHappen past line × AllLetteredMayHappen (with_lettered past line) lines
+  AllLetteredMayHappen past (line ∷ lines) = LetteredMayHappen past line × AllLetteredMayHappen
+      (with_lettered past line) lines
 
   -- ---- a run
 
@@ -157,7 +158,8 @@ module _ (p : Party → Params) (captures : Party → List Picture) where
   told_line x (Deliver n j) past = []
   told_line x (Back k) past = []
   told_line x Play past =
-      newest_line x (party_call_after x (with_event x Play past)).coded (party_call_after x (with_event x Play past)).plays
+      newest_line x (party_call_after x (with_event x Play past)).coded (party_call_after x
+      (with_event x Play past)).plays
 
   -- the lines of all plays of both parties, in the order in which they were played
   abbrev pub told_lines : List Lettered → Text
@@ -172,7 +174,8 @@ module _ (p : Party → Params) (captures : Party → List Picture) where
     pub near : AllMayHappenOf (sides p) captures past
     pub pictures : (x : Party)
         → text_of run (pictures_role x) ≡ head_text (p x).format ++ shown_text (party_call_after x past).plays
-    pub report : text_of run Report ≡ told_lines past ++ only_at_ok run.last.status (both_counts p (ways_of past) Report)
+    pub report : text_of run Report ≡ told_lines past ++ only_at_ok run.last.status (both_counts p (ways_of past)
+        Report)
     pub arrived : (x : Party)
         → ShowsWhatArrived (p x)
         (encoded (coding (p x)) (rules_of (p x)) (steady (p x)) (way x (ways_of past)).frames)
@@ -207,7 +210,8 @@ module _ (p : Party → Params) (captures : Party → List Picture) where
       → Status → Type 0
   AreCallsEnded broken fault number past [] status = status ≡ trace_read_out fault
   AreCallsEnded broken fault number past (None ∷ lines) status = ⊥
-  AreCallsEnded broken fault number past (Some said ∷ lines) status = IsRefusedPartyLine broken number past said.0 said.1 status
+  AreCallsEnded broken fault number past (Some said ∷ lines) status = IsRefusedPartyLine broken number past said.0
+      said.1 status
 
 -- The lines that it accepts are the first ones of the trace, one in each turn but the first, which
 -- reads both heads, and each of them says what may happen there. Over their events the run is the two
@@ -220,7 +224,8 @@ pub record BothFollowTheirTrace (p : Party → Params) (inputs : Role → List �
   pub taken : length run.turns ≡ length lines + 1
   pub may : AllLetteredMayHappen p (party_film p inputs) [] lines
   pub are_calls : AreCallsOver p (party_film p inputs) (with_all_lettered p (party_film p inputs) [] lines) run
-  pub end : AreCallsEnded p (party_film p inputs) (faults inputs) (fault_in 16777216 1 (inputs Events)) (length lines + 1)
+  pub end : AreCallsEnded p (party_film p inputs) (faults inputs) (fault_in 16777216 1 (inputs Events))
+      (length lines + 1)
       (with_all_lettered p (party_film p inputs) [] lines) refused run.last.status
   pub others : (x : Party) (fault : Y4mFault)
       → run.last.status ≡ refused_party_video x fault → run.last.taken (video_of (other x)) ≡ Some 0

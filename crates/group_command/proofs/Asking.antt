@@ -34,10 +34,12 @@ pub event_refused : (m : Room) (line : ℕ) (now old : Outside) (s : GroupState)
     → IsGroupRead m line now old s inputs → LineLaws
     → (told : Told) (e : Event) (refusal : Option Refusal) (step : Step GroupState)
     → IsAllowed (Err told) e refusal
-    → Ended (unless_refused (s.lines + 1) (inputs Events) e refusal step) (TraceRefused (fault_on_line line told)) inputs old now
+    → Ended (unless_refused (s.lines + 1) (inputs Events) e refusal step) (TraceRefused (fault_on_line line told))
+    inputs old now
 event_refused m line now old s inputs b laws told e refusal step refused =
     let told_so = refused.2 in
-    line_refused s inputs old now b.taken laws (TraceRefused (fault_on_line line told)) (fault_told (s.lines + 1) e refused.0)
+    line_refused s inputs old now b.taken laws (TraceRefused (fault_on_line line told)) (fault_told (s.lines + 1) e
+    refused.0)
     _
     (λ i. TraceRefused (fault_on_line (b.number i) (told_so i)))
     (ap (λ (o : Option Refusal). unless_refused (s.lines + 1) (inputs Events) e o step) refused.1)

@@ -69,5 +69,6 @@ module _ (s : GroupState) (inputs : Role → List ℕ) where
 
 pub trace_part : LineLaws → (s : GroupState) (inputs : Role → List ℕ) (k : ℕ) → NoNewline (take k (inputs Events))
     → IsPart (step_turns (group_trace_step s inputs (inputs Events))) (of Events k)
-trace_part laws s inputs k free = laws.line_part (inputs Events) k (step_turns (group_trace_step s inputs (inputs Events)))
+trace_part laws s inputs k free = laws.line_part (inputs Events) k (step_turns (group_trace_step s inputs
+    (inputs Events)))
     free (turn_trace s inputs (inputs Events) refl)

@@ -103,7 +103,8 @@ module _ (frame_laws : FrameLaws) (fault : Y4mFault) where
       at_trace s inputs (λ next taken. run_of group_step n next (left_after inputs taken))
       (λ next taken is. run_refused n next (left_after inputs taken) is) (inputs Events) ends
 
-  pub video_refused : (t : GroupTerms) (inputs : Role → List ℕ) → (group_call_run t inputs).last.status ≡ VideoRefused fault
+  pub video_refused : (t : GroupTerms) (inputs : Role → List ℕ) → (group_call_run t inputs).last.status
+      ≡ VideoRefused fault
       → video_fault (inputs Video) ≡ Some fault
   unfolding video_fault
   video_refused t inputs ends = by_head (head_of (inputs Video)) ends
@@ -126,7 +127,8 @@ module _ (fault : Y4mFault) where
     second_unless e None step goes ends = goes ends
     second_unless e (Some refusal) step goes ends = absurd (cc ends)
 
-    second_captured : (size : ℕ) (r : Result (List ℕ) Y4mFault) → Second (group_captured_step s (inputs Events) size r) → ⊥
+    second_captured : (size : ℕ) (r : Result (List ℕ) Y4mFault) → Second (group_captured_step s (inputs Events) size r)
+        → ⊥
     second_captured size (Ok planes) ends = more _ _ ends
     second_captured size (Err broken) ends = absurd (cc ends)
 
@@ -160,7 +162,8 @@ module _ (fault : Y4mFault) where
       second_trace s inputs (λ next taken. run_of group_step n next (left_after inputs taken))
       (λ next taken is. run_has_one n next (left_after inputs taken) is) (inputs Events) ends
 
-  pub no_second : (t : GroupTerms) (inputs : Role → List ℕ) → (group_call_run t inputs).last.status ≡ Video2Refused fault → ⊥
+  pub no_second : (t : GroupTerms) (inputs : Role → List ℕ) → (group_call_run t inputs).last.status
+      ≡ Video2Refused fault → ⊥
   no_second t inputs ends = by_head (head_of (inputs Video)) ends
     where
       by_head : (r : Result Format Y4mFault)

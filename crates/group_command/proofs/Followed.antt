@@ -127,7 +127,8 @@ module _ (t : GroupTerms) (f : Format) (inputs : Role → List ℕ) where
     abbrev coded : List (Coded Style Mb Picture)
     coded = (group_at p count frames past).coded
 
-    end_is : IsGroupEnd p count frames broken (lines_fault count 16777216 1 (inputs Events)) (length comes.lines + 1) past
+    end_is : IsGroupEnd p count frames broken (lines_fault count 16777216 1 (inputs Events)) (length comes.lines + 1)
+        past
         comes.refused run.last.status
     end_is = subst (λ (m : ℕ). IsGroupEnd p count frames broken (lines_fault count 16777216 1 (inputs Events)) m past
         comes.refused run.last.status) (one_more (length comes.lines)) comes.end

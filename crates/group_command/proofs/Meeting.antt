@@ -190,7 +190,8 @@ module _ (p : Params) (laws : ViewLaws p) (k : ℕ) (run : Groups) (events : Lis
       ∙ note_heard p k m run c.said
 
   pub texts_are : played < length run.coded → (place : ℕ)
-      → played_texts p place run view ≡ shown_texts (pictures_at place) (Some (49 + place)) c.played (reference_in c.coded c.played) (next_shown p c)
+      → played_texts p place run view ≡ shown_texts (pictures_at place) (Some (49 + place)) c.played
+      (reference_in c.coded c.played) (next_shown p c)
   texts_are some place =
       let may : c.played < length c.coded = omega (arith, some, played_is, coded_is) in
       let shown = (life.follows p laws k run events view l).shows may in

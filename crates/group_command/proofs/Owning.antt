@@ -116,9 +116,11 @@ module _ (m : Room) (said : OwnLine) (mid old new : Outside) (s : GroupState) (i
         written = same ∙ b.taken.written;
       } in
       subst (λ (z : Status). GivesUp (phase z) z step true inputs old new) (sym told_so)
-      (line_refused s inputs old new taken laws (TraceRefused (fault_told (s.lines + 1) e r)) (fault_told (s.lines + 1) e r)
+      (line_refused s inputs old new taken laws (TraceRefused (fault_told (s.lines + 1) e r)) (fault_told (s.lines + 1)
+      e r)
       step refl
-      (ap (λ (o : Option Refusal). unless_refused (s.lines + 1) trace e o (quiet_group_step trace texts (with_own_event s said.place said.event))) is))
+      (ap (λ (o : Option Refusal). unless_refused (s.lines + 1) trace e o (quiet_group_step trace texts
+      (with_own_event s said.place said.event))) is))
   own_gave_up cast viewers status (inr (none, kind, fronts)) =
       subst (λ (z : Status). GivesUp (phase z) z step true inputs old new) (sym kind)
       (subst (λ (x : Step GroupState). GainsFronts (step_texts x) old.written new.written)
@@ -132,7 +134,8 @@ module _ (m : Room) (said : OwnLine) (mid old new : Outside) (s : GroupState) (i
       let stood = b.stood in
       line_goes s inputs old mid b.taken (with_own_event s said.place said.event) texts step
       (RoomStandsAt (record m { cast = cast; viewers = viewers }))
-      (ap (λ (o : Option Refusal). unless_refused (s.lines + 1) trace e o (quiet_group_step trace texts (with_own_event s said.place said.event))) none)
+      (ap (λ (o : Option Refusal). unless_refused (s.lines + 1) trace e o (quiet_group_step trace texts
+      (with_own_event s said.place said.event))) none)
       (record {
         params = stood.params;
         place = stood.place;

@@ -255,7 +255,8 @@ module _ (p : Params) (count : ℕ) (frames : List Frame) (broken : Option Y4mFa
         comes_stopped E F m text rest (status_with fault) taken (λ l. refl) (λ other is. absurd (cc is)) end
 
     comes_end : (m at more lines : ℕ) (ended : Bool) (text : List ℕ) (rest : GroupState → (Role → ℕ) → Run)
-        → Comes past [] None m text (follow (Ends (all_viewers_played (state (group past) views at more lines ended))) rest)
+        → Comes past [] None m text (follow (Ends (all_viewers_played (state (group past) views at more lines ended)))
+        rest)
     comes_end m at more lines ended text rest = record {
       end = refl;
       others = λ fault is. absurd (cc is);
@@ -302,7 +303,8 @@ module _ (p : Params) (count : ℕ) (frames : List Frame) (broken : Option Y4mFa
             ∙ ap (λ (l : List ℕ). Some (line_size l)) (ap (λ (l : List ℕ). drop (taken_of run.turns Events) l)
             (sym gone) ∙ drop-drop (taken_of run.turns Events) (turn.taken Events) text);
         may = (may, comes.may);
-        end = subst (λ (j : ℕ). IsGroupEnd p count frames broken F j (Withs now comes.lines) comes.refused run.last.status)
+        end = subst (λ (j : ℕ). IsGroupEnd p count frames broken F j (Withs now comes.lines) comes.refused
+            run.last.status)
             (one_further m (length comes.lines)) comes.end;
         lines = line ∷ comes.lines;
         refused = comes.refused;
@@ -680,7 +682,8 @@ module _ (p : Params) (count : ℕ) (frames : List Frame) (broken : Option Y4mFa
             (group_lines count n (later_lines (byte ∷ trace))))
             (bad_line_or (group_line count (first_line (byte ∷ trace))) (lines + 1)
             (lines_fault count n (lines + 1 + 1) (later_lines (byte ∷ trace)))) (lines + 1) (inputs Events)
-            (follow (or_many b lines (group_line_step here inputs (group_line (length views) (first_line (byte ∷ trace)))))
+            (follow (or_many b lines (group_line_step here inputs (group_line (length views)
+            (first_line (byte ∷ trace)))))
             on_with)
         choice_comes false byte trace is go room many = absurd (omega (arith, ltb-false lines 16777216 many, room))
         choice_comes true byte trace is go room below =

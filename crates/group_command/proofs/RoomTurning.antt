@@ -47,7 +47,8 @@ module _ (x y : Room) (old new : Outside) where
       → GivesUp (phase status) status (group_step s inputs) (room_may_read s) inputs old new)
       → RoomTakesTurn x y r old new
   turn_gave_up (Ok b) status is stop cause rest gives = absurd is
-  turn_gave_up (Err z) status is stop cause rest gives = subst (λ (w : Status). RoomTakesTurn x y (Err w) old new) (sym is)
+  turn_gave_up (Err z) status is stop cause rest gives = subst (λ (w : Status). RoomTakesTurn x y (Err w) old new)
+      (sym is)
       (record {
         gives = gives;
         whole = λ s inputs k told. tt;
@@ -65,7 +66,8 @@ module _ (x y : Room) (old new : Outside) where
       → GainsFronts (step_texts (group_step s inputs)) old.written new.written)
       → RoomTakesTurn x y r old new
   turn_was_cut (Ok b) status is kind rose rest gives = absurd is
-  turn_was_cut (Err z) status is kind rose rest gives = subst (λ (w : Status). RoomTakesTurn x y (Err w) old new) (sym (is
+  turn_was_cut (Err z) status is kind rose rest gives = subst (λ (w : Status). RoomTakesTurn x y (Err w) old new)
+      (sym (is
       ∙ kind)) (record {
         gives = gives;
         whole = λ s inputs k told. tt;
@@ -229,13 +231,16 @@ module _ (lines : LineLaws) (steps : StepLaws) (m : Room) (after : TracePlace) (
       → TakesGroupLine now y found.0 said r mid new → RoomTakesTurn m y r old new
   line_done said said_is y r new trace_is t = record {
     gives = λ s inputs k told.
-        subst (λ (step : Step GroupState). TurnGives r step (RoomStandsAt y) room_may_read (room_may_read s) inputs old new)
+        subst (λ (step : Step GroupState). TurnGives r step (RoomStandsAt y) room_may_read (room_may_read s) inputs old
+            new)
         (sym (step_is s inputs k told (Some said) (said_so (Some said) said_is s inputs k told)))
-        (subst (λ (b : Bool). TurnGives r (group_line_step s inputs (Some said)) (RoomStandsAt y) room_may_read b inputs old new)
+        (subst (λ (b : Bool). TurnGives r (group_line_step s inputs (Some said)) (RoomStandsAt y) room_may_read b inputs
+        old new)
         (sym (could s inputs k told))
         (t.gives old s inputs (line_read s inputs k told)));
     whole = λ s inputs k told. never r (new.left Events ≡ Some []) t.goes_on;
-    falls = falls_so r (room_lines_left m) (room_lines_left y) (ap (λ (reader : TracePlace). 16777216 - reader.lines + 1) trace_is
+    falls = falls_so r (room_lines_left m) (room_lines_left y) (ap (λ (reader : TracePlace). 16777216 - reader.lines +
+        1) trace_is
         ∙ fewer);
     ready = t.ready;
     stop = t.stop;

@@ -160,7 +160,8 @@ module _ (turns : TurnLaws) (laws : VideoLaws) (t : GroupTerms) (inputs : Role
       whole = refl;
       left = λ r input. ap (λ (l : Role → Option (List ℕ)). l r) still
           ∙ turns.one_read Video (head_size (inputs Video)) old mid inputs told e.2 others r input;
-      written = subst (λ (w : Role → Option (List ℕ)). Gains (viewers_heads video.format t.receivers) w last.written) same
+      written = subst (λ (w : Role → Option (List ℕ)). Gains (viewers_heads video.format t.receivers) w last.written)
+          same
           gains;
     }
 

@@ -27,7 +27,8 @@ use Rattle.group_call.specs.Viewing.{ViewerRun, view_play}
 use Rattle.group_command.specs.Group.{counts_of_view, viewers_heads, pictures_at, played_texts}
 
 -- the row of a play that is told so
-pub row_is : (p : Params) (k : ℕ) (run : Groups) (view : ViewerRun) (role : Role) (digit number : ℕ) (mark : Mark) (reference : Option ℕ)
+pub row_is : (p : Params) (k : ℕ) (run : Groups) (view : ViewerRun) (role : Role) (digit number : ℕ) (mark : Mark)
+    (reference : Option ℕ)
     (picture : Picture) → role ≡ pictures_at k → digit ≡ 49 + k
     → number ≡ (run_of p view.entries).played
     → mark ≡ mark_of (played_mark (decoding p.format) (rules_of p) (run_of p view.entries))
@@ -67,7 +68,8 @@ module _ (turns : TurnLaws) (f : Format) (old mid : Role → Option (List ℕ)) 
   -- so many heads are written, and the next one, or a prefix of it
   pub head_more : (k : ℕ) (new : Role → Option (List ℕ)) → Gains (viewers_heads f k) old mid
       → Gains (on (pictures_at k) (head_text f)) mid new → Gains (viewers_heads f (suc k)) old new
-  head_more k new before now = turns.both_texts (viewers_heads f k) (on (pictures_at k) (head_text f)) old mid new before
+  head_more k new before now = turns.both_texts (viewers_heads f k) (on (pictures_at k) (head_text f)) old mid new
+      before
       now
 
   pub head_cut : (k : ℕ) (new : Role → Option (List ℕ)) → Gains (viewers_heads f k) old mid
@@ -84,12 +86,14 @@ module _ (turns : TurnLaws) (f : Format) (old mid : Role → Option (List ℕ)) 
   same k n le too = omega (arith, le, too)
 
   by_order : (k n : ℕ) → k ≤ suc n → (k < suc n → GainsFronts (viewers_heads f (suc n)) old mid)
-      → GainsFronts (viewers_heads f k) old mid → (k < suc n) ⊎ (suc n ≤ k) → GainsFronts (viewers_heads f (suc n)) old mid
+      → GainsFronts (viewers_heads f k) old mid → (k < suc n) ⊎ (suc n ≤ k) → GainsFronts (viewers_heads f (suc n)) old
+      mid
   by_order k n le goes fronts (inl less) = goes less
   by_order k n le goes fronts (inr more) = subst (λ (m : ℕ). GainsFronts (viewers_heads f m) old mid)
       (same k (suc n) le more) fronts
 
-  pub heads_front : (k n : ℕ) → k ≤ n → GainsFronts (viewers_heads f k) old mid → GainsFronts (viewers_heads f n) old mid
+  pub heads_front : (k n : ℕ) → k ≤ n → GainsFronts (viewers_heads f k) old mid → GainsFronts (viewers_heads f n) old
+      mid
   heads_front k zero le fronts = subst (λ (m : ℕ). GainsFronts (viewers_heads f m) old mid) (none k le) fronts
     where
       none : (k : ℕ) → k ≤ 0 → k ≡ 0

@@ -182,7 +182,8 @@ abbrev pub group_line_step : GroupState → (Role → List ℕ) → Option Group
 group_line_step s inputs None = Ends (bad_line (BadLine (s.lines + 1)))
 group_line_step s inputs (Some Quiet) = quiet_group_step (inputs Events) no_texts s
 group_line_step s inputs (Some ForAll) =
-    unless_refused (s.lines + 1) (inputs Events) Send (first_behind s.params s.run s.views) (group_capture_step s (inputs Events) (inputs Video))
+    unless_refused (s.lines + 1) (inputs Events) Send (first_behind s.params s.run s.views) (group_capture_step s
+    (inputs Events) (inputs Video))
 group_line_step s inputs (Some (Of k event)) = own_step s (inputs Events) k event
 
 -- a trace has 16,777,216 lines at most

@@ -81,7 +81,8 @@ pub record KeepsCast (old new : Broadcast) : Type 0 where
 
 -- A line was read, which has this number: the machine stood at the state before it, its reader of the
 -- trace has passed it, and nothing else was done since the desk was the old one.
-pub record IsGroupRead (m : Room) (line : ℕ) (now old : Outside) (s : GroupState) (inputs : Role → List ℕ) : Type 0 where
+pub record IsGroupRead (m : Room) (line : ℕ) (now old : Outside) (s : GroupState)
+    (inputs : Role → List ℕ) : Type 0 where
   pub stood : RoomStands m (after_group_line s (inputs Events))
       (left_after inputs (of Events (line_size (inputs Events))) Events)
   pub number : line ≡ s.lines + 1
@@ -118,13 +119,15 @@ pub record HasLine (m : Room) (line : ℕ) : Type 0 where
   pub viewing : AreViewing (sent_in m.cast) (line - 1) m.viewers
 
 -- the frame is asked for that may be captured
-pub record IsGroupAsked (m : Room) (line : ℕ) (now old : Outside) (s : GroupState) (inputs : Role → List ℕ) : Type 0 where
+pub record IsGroupAsked (m : Room) (line : ℕ) (now old : Outside) (s : GroupState)
+    (inputs : Role → List ℕ) : Type 0 where
   pub read : IsGroupRead m line now old s inputs
   pub none : first_behind s.params s.run s.views ≡ None
 
 abbrev pub TakesGroupFrame : Room → Room → ℕ → Result Bool Status → Outside → Outside → Type 0
 TakesGroupFrame m m_new line result mid new =
-    IsLineTurn m_new result mid new (IsGroupAsked m line mid) (λ s inputs. group_capture_step s (inputs Events) (inputs Video))
+    IsLineTurn m_new result mid new (IsGroupAsked m line mid) (λ s inputs. group_capture_step s (inputs Events)
+    (inputs Video))
 
 -- ---- a whole turn
 

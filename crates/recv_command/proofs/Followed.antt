@@ -207,7 +207,8 @@ module _ (p : Params) where
             text_at Wire (messages_text p) (texts_are recv_rules state mind_is Wire (messages_text p) messages_grow
             f.accepted [])
             ∙ quiet_end recv_rules state mind_is [] head inputs run f Wire (messages_text p) refl;
-        report = text_at Report (receiver_play_lines p) (texts_are recv_rules state mind_is Report (receiver_play_lines p) lines_grow
+        report = text_at Report (receiver_play_lines p) (texts_are recv_rules state mind_is Report
+            (receiver_play_lines p) lines_grow
             f.accepted []);
       };
       end = end_at recv_rules state mind_is [] head inputs run f;

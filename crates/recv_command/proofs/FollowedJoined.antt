@@ -127,8 +127,10 @@ module _ (p : Params) where
           f.accepted [])
           ∙ quiet_end join_rules joined mind_is [] head inputs run f Wire
           (over Wire (messages_text p) (messages_grow p)) refl;
-      report = text_at Report (over Report (receiver_play_lines p) (lines_grow p)) (texts_are join_rules joined mind_is Report
-          (over Report (receiver_play_lines p) (lines_grow p)) (grows_joined Report (receiver_play_lines p) (lines_grow p)) f.accepted
+      report = text_at Report (over Report (receiver_play_lines p) (lines_grow p)) (texts_are join_rules joined mind_is
+          Report
+          (over Report (receiver_play_lines p) (lines_grow p)) (grows_joined Report (receiver_play_lines p)
+          (lines_grow p)) f.accepted
           []);
       end = end_at join_rules joined mind_is [] head inputs run f;
     }

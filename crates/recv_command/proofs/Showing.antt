@@ -33,7 +33,8 @@ module _ (laws : TurnLaws) (number : ℕ) (mark : Mark) (picture : Picture) (mes
         (laws.front_of_first (on Report (picture_text number (Some mark) None None)) (said_message_text message) a b
         (subst (λ (l : List ℕ). GainsFronts (on Report l) a b) is p))
 
-    pub cut_message : (c : Role → Option (List ℕ)) → Gains (on Report text) a b → GainsFronts (said_message_text message) b c
+    pub cut_message : (c : Role → Option (List ℕ)) → Gains (on Report text) a b
+        → GainsFronts (said_message_text message) b c
         → GainsFronts (shown_play_text number mark picture message) old c
     cut_message c p q =
         laws.front_of_second (on Pictures (frame_text mark picture))

@@ -202,4 +202,5 @@ other_entry s inputs place entry (inl packet) at =
     ap (λ (e : Entry). sender_entry_step s inputs (Some e)) packet.1
     ∙ ap (λ (n : ℕ). no_step (bad_entry (BadRecord n))) (sym at)
 other_entry s inputs place entry (inr play) at =
-    ap (λ (e : Entry). sender_entry_step s inputs (Some e)) play ∙ ap (λ (n : ℕ). no_step (bad_entry (BadRecord n))) (sym at)
+    ap (λ (e : Entry). sender_entry_step s inputs (Some e)) play ∙ ap (λ (n : ℕ). no_step (bad_entry (BadRecord n)))
+        (sym at)

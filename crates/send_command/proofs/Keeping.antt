@@ -269,7 +269,8 @@ few_bytes len buf bytes is whole long = omega (
 
 -- feedback is taken
 pub takes_feedback : (laws : TurnLaws) (s : SendState) (inputs : Role → List ℕ) (old mid : Outside) (len : ℕ)
-    → send_step s inputs ≡ sender_entry_step s inputs (Some (Back len)) → Tells mid (left_after inputs (of Events (3 + len)))
+    → send_step s inputs ≡ sender_entry_step s inputs (Some (Back len))
+    → Tells mid (left_after inputs (of Events (3 + len)))
     → mid.written ≡ old.written
     → (stands : SendState → (Role → List ℕ) → Type 0)
     → stands (after_heard_feedback s (take len (drop 3 (inputs Events)))) (left_after inputs (of Events (3 + len)))

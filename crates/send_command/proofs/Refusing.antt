@@ -67,7 +67,8 @@ module _ (frame_laws : FrameLaws) (fault : Y4mFault) where
     at_log [] ends = absurd (cc ends)
     at_log (b ∷ log) ends = within (nat_lt s.read most_entries) refl ends
       where
-        within : (t : Bool) → nat_lt s.read most_entries ≡ t → (follow (sender_log_step s inputs (b ∷ log)) rest).last.status
+        within : (t : Bool) → nat_lt s.read most_entries ≡ t → (follow (sender_log_step s inputs (b ∷ log))
+            rest).last.status
             ≡ VideoRefused fault → faulty (inputs Video)
         within true is ends = at_entry (entry_in sides.Send (b ∷ log)) (rw is at ends)
         within false is ends = absurd (cc (rw is at ends))

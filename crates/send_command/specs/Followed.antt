@@ -126,7 +126,8 @@ pub record SendsItsLog (p : Params) (aim : Aim) (inputs : Role → List ℕ) (ru
   pub report : text_of run Report
       ≡ sent_lines p aim (with_sender_entries (sender_film p (video_frames (inputs Video))) [] accepted)
       ++ only_at_ok run.last.status
-      (sender_counts (counted_sent p aim (with_sender_entries (sender_film p (video_frames (inputs Video))) [] accepted)))
+      (sender_counts (counted_sent p aim (with_sender_entries (sender_film p (video_frames (inputs Video))) []
+      accepted)))
   pub end : IsSenderEnd (log_fault sides.Send (inputs Events)) (video_fault (inputs Video))
       (frames_after (sender_film p (video_frames (inputs Video))) accepted) refused run.last.status
   pub others : Spares run.last.status run.last.taken

@@ -62,6 +62,7 @@ returns-clause-alone g c = λ run inputs start receives u.
 
 pub returns-in_default-clause-alone : goal.returns-in_default-clause-alone
 returns-in_default-clause-alone g c = λ run inputs start receives u.
-    c.run_laws.ensures.no_memory (call_at_start c.args.call.now.terms [] c.args.call.now.video.at) call_step may_read run
+    c.run_laws.ensures.no_memory (call_at_start c.args.call.now.terms [] c.args.call.now.video.at) call_step may_read
+    run
     inputs start (most_turns c.args.call.now.terms.plain)
     (g.D.Desk.outside c.args.desk.now) u

@@ -15,7 +15,8 @@ returns-clause-ok g c = λ p ways left holds may.
     let own = c.args.own.now in
     let far = c.args.far.now in
     let after = c.play-played.ensures.holds p x ways left holds may in
-    let row = row_is p x ways (c.after_a_play.ensures p x ways) c.letter.result c.play-played.result.number c.play-played.result.mark
+    let row = row_is p x ways (c.after_a_play.ensures p x ways) c.letter.result c.play-played.result.number
+    c.play-played.result.mark
     c.reference_of_next-reference.result (picture c.shown.result) c.letter.ensures.value
     (c.play-played.ensures.number ∙ (c.pair_laws.ensures p).played x own far ways holds)
     (c.play-played.ensures.mark p x ways left holds may)
@@ -32,7 +33,8 @@ returns-clause-err g c = λ p ways left holds may.
     let own = c.args.own.now in
     let far = c.args.far.now in
     let after = c.play-played.ensures.holds p x ways left holds may in
-    let row = row_is p x ways (c.after_a_play.ensures p x ways) c.letter.result c.play-played.result.number c.play-played.result.mark
+    let row = row_is p x ways (c.after_a_play.ensures p x ways) c.letter.result c.play-played.result.number
+    c.play-played.result.mark
     c.reference_of_next-reference.result (picture c.shown.result) c.letter.ensures.value
     (c.play-played.ensures.number ∙ (c.pair_laws.ensures p).played x own far ways holds)
     (c.play-played.ensures.mark p x ways left holds may)

@@ -12,7 +12,8 @@ returns-clause-ok g c = λ p run view cast h some near.
     let outside = g.D.Desk.outside in
     let next = (c.played.ensures.view p view h) in
     let after = c.play-played.ensures.holds p view h in
-    let row = row_is p c.args.place run view c.pictures_at.result c.digit_of.result c.play-played.result.number c.play-played.result.mark
+    let row = row_is p c.args.place run view c.pictures_at.result c.digit_of.result c.play-played.result.number
+    c.play-played.result.mark
     c.reference_of-reference.result (picture c.shown.result) c.pictures_at.ensures.value c.digit_of.ensures.value
     (c.play-played.ensures.number ∙ sym c.played.ensures.count ∙ next) (c.play-played.ensures.mark p view h)
     (reference_next run c.played.result _ next (c.reference_of-reference.ensures p run cast) some near)
@@ -26,7 +27,8 @@ returns-clause-err g c = λ p run view cast h some near.
     let outside = g.D.Desk.outside in
     let next = (c.played.ensures.view p view h) in
     let after = c.play-played.ensures.holds p view h in
-    let row = row_is p c.args.place run view c.pictures_at.result c.digit_of.result c.play-played.result.number c.play-played.result.mark
+    let row = row_is p c.args.place run view c.pictures_at.result c.digit_of.result c.play-played.result.number
+    c.play-played.result.mark
     c.reference_of-reference.result (picture c.shown.result) c.pictures_at.ensures.value c.digit_of.ensures.value
     (c.play-played.ensures.number ∙ sym c.played.ensures.count ∙ next) (c.play-played.ensures.mark p view h)
     (reference_next run c.played.result _ next (c.reference_of-reference.ensures p run cast) some near)

@@ -20,10 +20,12 @@ returns-in-Ok-clause-gives g c = λ inputs told.
     let run = run_from first call_step most inputs in
     let old = outside c.args.desk.now in
     let mid = outside c.begin.new.desk in
-    let under_way = c.run_laws.ensures.begins_from (call_at_start begun.terms [] begun.video.at) first call_step may_read
+    let under_way = c.run_laws.ensures.begins_from (call_at_start begun.terms [] begun.video.at) first call_step
+    may_read
     most inputs old mid (c.in-Ok.ensures.gives inputs told) in
     c.converse-status.ensures.alone run inputs old.written c.in-Ok.ensures.ready.receives
-    (subst (λ (plain : Bool). IsUnderWay call_step may_read run inputs old.written (IsCallStart begun.terms begun.video.at)
+    (subst (λ (plain : Bool). IsUnderWay call_step may_read run inputs old.written (IsCallStart begun.terms
+    begun.video.at)
     (most_turns plain) mid) (sym c.in-Ok.ensures.plain) under_way)
 
 pub returns-in-Err-clause-gives : goal.returns-in-Err-clause-gives

@@ -21,7 +21,8 @@ returns-in_err-own_turn-clause-takes g c =
     let mid = outside c.args.desk.now in
     let new = outside c.own_turn.new.desk in
     let status = c.in_err-own_turn.field-0.0 in
-    gave_up _ mid new (IsGroupRead m said.line mid) (λ s inputs. group_line_step s inputs (Some (Of said.place said.event)))
+    gave_up _ mid new (IsGroupRead m said.line mid) (λ s inputs. group_line_step s inputs
+    (Some (Of said.place said.event)))
     c.from_residual.result status c.from_residual.ensures.1
     c.in_err-own_turn.ensures.stop c.in_err-own_turn.ensures.cause
     (c.turning.ensures.steps.writes mid new c.own_turn.ensures.rest)
@@ -43,7 +44,8 @@ returns-clause-takes g c =
     let new = outside c.own_turn.new.desk in
     let done = c.own_turn.ensures in
     let now : Room = record m { cast = c.own_turn.new.cast; viewers = c.own_turn.new.self } in
-    went_on now mid new (IsGroupRead m said.line mid) (λ s inputs. group_line_step s inputs (Some (Of said.place said.event)))
+    went_on now mid new (IsGroupRead m said.line mid) (λ s inputs. group_line_step s inputs
+    (Some (Of said.place said.event)))
     (ready_own m c.own_turn.new.cast c.own_turn.new.self said.line mid.attached new.attached c.requires.ready
     c.requires.line done.rest.attached done.keeps done.count done.viewing)
     (c.turning.ensures.steps.writes mid new done.rest)
