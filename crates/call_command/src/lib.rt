@@ -40,5 +40,5 @@ pub use call::Call;
 pub use counts::counts_line;
 pub use lent::converse;
 pub use refused::allow;
-pub use show::{Row, show, tell_counts};
+pub use show::{Row, show_row, tell_counts};
 pub use terms::Terms;

@@ -101,7 +101,7 @@ fn put_shown<D: Desk>(
 }
 
 /// Writes a picture that is shown, and its line.
-pub fn show<D: Desk>(desk: &mut D, row: &Row, picture: PictureRef<'_>) -> Result<(), Status>
+pub fn show_row<D: Desk>(desk: &mut D, row: &Row, picture: PictureRef<'_>) -> Result<(), Status>
     requires output { IsOutput row.now.role }
     requires pictures { (D.outside desk.old).attached row.now.role ≡ true }
     requires report { (D.outside desk.old).attached Report ≡ true }
@@ -174,7 +174,7 @@ pub fn play_next<D: Desk>(
         mark: played.mark,
         reference,
     };
-    show(desk, &row, receiver.shown())
+    show_row(desk, &row, receiver.shown())
 }
 
 /// Writes the counts, at the end of the trace.

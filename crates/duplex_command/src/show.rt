@@ -18,7 +18,7 @@ ghost use Rattle.duplex_ends.specs.Pair.{AreInCall, HoldsPair, MayHappenNow};
 ghost use Rattle.duplex_ends.specs.Ways.{call_in, sides};
 ghost use Rattle.duplex_command.specs.Duplex.{both_counts, letter_of, party_play_texts};
 
-use call_command::{Row, counts_line, show};
+use call_command::{Row, counts_line, show_row};
 use call_report::{Line, Status};
 use desk_program::{laws as desk_program_laws, put_line};
 use duplex_call::Party;
@@ -77,7 +77,7 @@ pub fn play_next<D: Desk>(
         mark: played.mark,
         reference,
     };
-    show(desk, &row, own.shown())
+    show_row(desk, &row, own.shown())
 }
 
 // The line of a party's counts, with this word for the pictures that were played.

@@ -14,7 +14,7 @@ ghost use Rattle.group_call.specs.Viewing.{ViewerRun, view_play};
 ghost use Rattle.group_command.specs.Group.{counts_of_view, pictures_at, played_texts};
 ghost use Rattle.group_command.specs.Turning.{OpensFor};
 
-use call_command::{Row, counts_line, show};
+use call_command::{Row, counts_line, show_row};
 use call_report::Status;
 use desk_program::{put, put_line};
 use group_call::{Broadcast, Viewer};
@@ -113,7 +113,7 @@ pub fn play_next<D: Desk>(
         mark: played.mark,
         reference,
     };
-    show(desk, &row, viewer.shown())
+    show_row(desk, &row, viewer.shown())
 }
 
 // What the line of its counts begins with.

@@ -19,8 +19,8 @@ returns-clause-ok g c = λ p run view cast h some near.
     (reference_next run c.played.result _ next (c.reference_of-reference.ensures p run cast) some near)
     (c.shown.ensures.view p (view_play p view) after)
     in
-    on_ok_weaker c.show.result (λ gains. subst (λ (t : Role → List ℕ). Gains t (outside c.args.desk.now).written
-    (outside c.show.new.desk).written) row gains) c.show.ensures.ok
+    on_ok_weaker c.show_row.result (λ gains. subst (λ (t : Role → List ℕ). Gains t (outside c.args.desk.now).written
+    (outside c.show_row.new.desk).written) row gains) c.show_row.ensures.ok
 
 pub returns-clause-err : goal.returns-clause-err
 returns-clause-err g c = λ p run view cast h some near.
@@ -34,5 +34,5 @@ returns-clause-err g c = λ p run view cast h some near.
     (reference_next run c.played.result _ next (c.reference_of-reference.ensures p run cast) some near)
     (c.shown.ensures.view p (view_play p view) after)
     in
-    on_err_weaker c.show.result (λ gains. subst (λ (t : Role → List ℕ). GainsFronts t (outside c.args.desk.now).written
-    (outside c.show.new.desk).written) row gains) c.show.ensures.err
+    on_err_weaker c.show_row.result (λ gains. subst (λ (t : Role → List ℕ). GainsFronts t (outside c.args.desk.now).written
+    (outside c.show_row.new.desk).written) row gains) c.show_row.ensures.err

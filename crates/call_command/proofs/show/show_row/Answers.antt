@@ -2,7 +2,7 @@ use Rattle.std.proofs.lemmas.Result.{on_ok_weaker, on_err_weaker}
 use Rattle.h263_planes.specs.Lent.{picture}
 use Rattle.call_report.specs.View.{text_of}
 use Rattle.call_command.proofs.Writing.{on_err, first_front, both_gain, second_front}
-use Rattle.call_command.proofs.show.show.Goals as goal
+use Rattle.call_command.proofs.show.show_row.Goals as goal
 
 pub returns-in_err-put_shown-clause-err : goal.returns-in_err-put_shown-clause-err
 returns-in_err-put_shown-clause-err g c =
