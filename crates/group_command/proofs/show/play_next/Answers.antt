@@ -34,5 +34,6 @@ returns-clause-err g c = λ p run view cast h some near.
     (reference_next run c.played.result _ next (c.reference_of-reference.ensures p run cast) some near)
     (c.shown.ensures.view p (view_play p view) after)
     in
-    on_err_weaker c.show_row.result (λ gains. subst (λ (t : Role → List ℕ). GainsFronts t (outside c.args.desk.now).written
+    on_err_weaker c.show_row.result (λ gains. subst (λ (t : Role → List ℕ). GainsFronts t
+    (outside c.args.desk.now).written
     (outside c.show_row.new.desk).written) row gains) c.show_row.ensures.err

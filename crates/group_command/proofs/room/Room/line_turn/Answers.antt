@@ -8,7 +8,7 @@ use Rattle.group_command.specs.declared.line.GroupLine.{GroupLine}
 use Rattle.group_command.specs.declared.line.GroupLine.TheVariants.{ForAll, Of}
 use Rattle.group_command.specs.Lines.{group_line}
 use Rattle.group_command.proofs.LineTurning.{read_out, trace_cut, trace_ends, trace_stops}
-use Rattle.group_command.proofs.RoomTurning.{WasRead, has_line, line_bad, line_done, line_empty, moved, ready_after, says, turn_gave_up, turn_is_over, turn_was_cut}
+use Rattle.group_command.proofs.RoomTurning.{has_line, is_at, line_bad, line_done, line_empty, reads_trace, ready_after, says, turn_gave_up, turn_is_over, turn_was_cut, was_read}
 use Rattle.group_command.proofs.room.Room.line_turn.Goals as goal
 
 pub returns-in_err-line : goal.returns-in_err-line
@@ -24,14 +24,8 @@ returns-in_err-line g c =
     (λ is. c.in_err-line.ensures.cause (ap (λ e. Err e) is)))
     (c.turning.ensures.steps.reads old mid c.raw.ensures.rest)
     (λ s inputs k told.
-    trace_stops c.turning.ensures.lines s inputs old mid (record {
-      told = told;
-      others = c.raw.ensures.others;
-      written = c.raw.ensures.rest.written;
-    }) m.trace c.raw.new.self (record {
-      lines_are = k.lines;
-      ended_is = k.ended;
-    }) c.raw.new.buf stop
+    trace_stops c.turning.ensures.lines s inputs old mid (reads_trace old mid c.raw.ensures.others c.raw.ensures.rest
+    inputs told) m.trace c.raw.new.self (is_at m s inputs k) c.raw.new.buf stop
     (c.in_err-line.ensures.gives (inputs Events) (told Events refl)) c.in_err-line.ensures.moves)
 
 pub returns-in_err-tell : goal.returns-in_err-tell
@@ -51,14 +45,8 @@ returns-in_err-tell g c =
     let e = says (Ok c.in_ok-line.field-0) (Ok None) m.trace c.raw.new.self (inputs Events) c.raw.new.buf _
     (ap (λ (o : Option (ℕ × ℕ)). Ok o) c.in_default.is) (c.in_ok-line.ensures.gives (inputs Events)
     (told Events refl)) in
-    trace_cut c.turning.ensures.lines s inputs old mid (record {
-      told = told;
-      others = c.raw.ensures.others;
-      written = c.raw.ensures.rest.written;
-    }) m.trace c.raw.new.self (record {
-      lines_are = k.lines;
-      ended_is = k.ended;
-    }) c.raw.new.buf e k.over
+    trace_cut c.turning.ensures.lines s inputs old mid (reads_trace old mid c.raw.ensures.others c.raw.ensures.rest
+    inputs told) m.trace c.raw.new.self (is_at m s inputs k) c.raw.new.buf e k.over
     new c.tell.ensures.rest.left (c.in_err-tell.ensures.err s.params s.run s.views k.cast k.views))
 
 pub returns-in_default : goal.returns-in_default
@@ -75,27 +63,15 @@ returns-in_default g c =
     let e = says (Ok c.in_ok-line.field-0) (Ok None) m.trace c.raw.new.self (inputs Events) c.raw.new.buf _
     (ap (λ (o : Option (ℕ × ℕ)). Ok o) c.in_default.is) (c.in_ok-line.ensures.gives (inputs Events)
     (told Events refl)) in
-    trace_ends c.turning.ensures.lines s inputs old mid (record {
-      told = told;
-      others = c.raw.ensures.others;
-      written = c.raw.ensures.rest.written;
-    }) m.trace c.raw.new.self (record {
-      lines_are = k.lines;
-      ended_is = k.ended;
-    }) c.raw.new.buf e k.over
+    trace_ends c.turning.ensures.lines s inputs old mid (reads_trace old mid c.raw.ensures.others c.raw.ensures.rest
+    inputs told) m.trace c.raw.new.self (is_at m s inputs k) c.raw.new.buf e k.over
     new c.tell.ensures.rest.left (c.in_ok-tell.ensures.ok s.params s.run s.views k.cast k.views))
     (λ s inputs k told.
     let e = says (Ok c.in_ok-line.field-0) (Ok None) m.trace c.raw.new.self (inputs Events) c.raw.new.buf _
     (ap (λ (o : Option (ℕ × ℕ)). Ok o) c.in_default.is) (c.in_ok-line.ensures.gives (inputs Events)
     (told Events refl)) in
-    read_out c.turning.ensures.lines s inputs old mid (record {
-      told = told;
-      others = c.raw.ensures.others;
-      written = c.raw.ensures.rest.written;
-    }) m.trace c.raw.new.self (record {
-      lines_are = k.lines;
-      ended_is = k.ended;
-    }) c.raw.new.buf e k.over new c.tell.ensures.rest.left)
+    read_out c.turning.ensures.lines s inputs old mid (reads_trace old mid c.raw.ensures.others c.raw.ensures.rest
+    inputs told) m.trace c.raw.new.self (is_at m s inputs k) c.raw.new.buf e k.over new c.tell.ensures.rest.left)
 
 -- ---- after a line
 
@@ -106,15 +82,9 @@ capture-requires g c =
     let mid = outside c.raw.new.desk in
     let m = c.args.self.now in
     let found : ℕ × ℕ = (c.in-Some.line, c.in-Some.length) in
-    let is = ap (λ (o : Option (ℕ × ℕ)). Ok o) c.in-Some.is in
     ready_after c.turning.ensures.lines c.turning.ensures.steps m c.raw.new.self c.raw.new.buf found old mid
-    (record {
-      gives = λ rest left. says (Ok c.in_ok-line.field-0) (Ok (Some found)) m.trace c.raw.new.self rest c.raw.new.buf
-          _ is (c.in_ok-line.ensures.gives rest left);
-      moves = moved (Ok c.in_ok-line.field-0) (Ok (Some found)) m.trace c.raw.new.self is c.in_ok-line.ensures.moves;
-      others = c.raw.ensures.others;
-      rest = c.raw.ensures.rest;
-    }) c.requires
+    (was_read m c.raw.new.self c.raw.new.buf c.in_ok-line.field-0 found old mid c.in-Some.is c.in_ok-line.ensures.gives
+    c.in_ok-line.ensures.moves c.raw.ensures.others c.raw.ensures.rest) c.requires
 
 pub own-requires-clause-ready : goal.own-requires-clause-ready
 own-requires-clause-ready g c =
@@ -123,15 +93,9 @@ own-requires-clause-ready g c =
     let mid = outside c.raw.new.desk in
     let m = c.args.self.now in
     let found : ℕ × ℕ = (c.in-Some.line, c.in-Some.length) in
-    let is = ap (λ (o : Option (ℕ × ℕ)). Ok o) c.in-Some.is in
     ready_after c.turning.ensures.lines c.turning.ensures.steps m c.raw.new.self c.raw.new.buf found old mid
-    (record {
-      gives = λ rest left. says (Ok c.in_ok-line.field-0) (Ok (Some found)) m.trace c.raw.new.self rest c.raw.new.buf
-          _ is (c.in_ok-line.ensures.gives rest left);
-      moves = moved (Ok c.in_ok-line.field-0) (Ok (Some found)) m.trace c.raw.new.self is c.in_ok-line.ensures.moves;
-      others = c.raw.ensures.others;
-      rest = c.raw.ensures.rest;
-    }) c.requires
+    (was_read m c.raw.new.self c.raw.new.buf c.in_ok-line.field-0 found old mid c.in-Some.is c.in_ok-line.ensures.gives
+    c.in_ok-line.ensures.moves c.raw.ensures.others c.raw.ensures.rest) c.requires
 
 pub own-requires-clause-line : goal.own-requires-clause-line
 own-requires-clause-line g c =
@@ -140,15 +104,9 @@ own-requires-clause-line g c =
     let mid = outside c.raw.new.desk in
     let m = c.args.self.now in
     let found : ℕ × ℕ = (c.in-Some.line, c.in-Some.length) in
-    let is = ap (λ (o : Option (ℕ × ℕ)). Ok o) c.in-Some.is in
     has_line c.turning.ensures.lines c.turning.ensures.steps m c.raw.new.self c.raw.new.buf found old mid
-    (record {
-      gives = λ rest left. says (Ok c.in_ok-line.field-0) (Ok (Some found)) m.trace c.raw.new.self rest c.raw.new.buf
-          _ is (c.in_ok-line.ensures.gives rest left);
-      moves = moved (Ok c.in_ok-line.field-0) (Ok (Some found)) m.trace c.raw.new.self is c.in_ok-line.ensures.moves;
-      others = c.raw.ensures.others;
-      rest = c.raw.ensures.rest;
-    }) c.requires
+    (was_read m c.raw.new.self c.raw.new.buf c.in_ok-line.field-0 found old mid c.in-Some.is c.in_ok-line.ensures.gives
+    c.in_ok-line.ensures.moves c.raw.ensures.others c.raw.ensures.rest) c.requires
 
 pub returns-in-Ok-Quiet : goal.returns-in-Ok-Quiet
 returns-in-Ok-Quiet g c =
@@ -157,16 +115,8 @@ returns-in-Ok-Quiet g c =
     let mid = outside c.raw.new.desk in
     let m = c.args.self.now in
     let found : ℕ × ℕ = (c.in-Some.line, c.in-Some.length) in
-    let is = ap (λ (o : Option (ℕ × ℕ)). Ok o) c.in-Some.is in
-    let was : WasRead m c.raw.new.self c.raw.new.buf found old mid =
-    record {
-      gives = λ rest left. says (Ok c.in_ok-line.field-0) (Ok (Some found)) m.trace c.raw.new.self rest c.raw.new.buf
-          _ is (c.in_ok-line.ensures.gives rest left);
-      moves = moved (Ok c.in_ok-line.field-0) (Ok (Some found)) m.trace c.raw.new.self is c.in_ok-line.ensures.moves;
-      others = c.raw.ensures.others;
-      rest = c.raw.ensures.rest;
-    }
-    in
+    let was = was_read m c.raw.new.self c.raw.new.buf c.in_ok-line.field-0 found old mid c.in-Some.is
+    c.in_ok-line.ensures.gives c.in_ok-line.ensures.moves c.raw.ensures.others c.raw.ensures.rest in
     line_empty c.turning.ensures.lines c.turning.ensures.steps m c.raw.new.self c.raw.new.buf found old mid was
     (λ le. ap (λ (n : ℕ). group_line n (take found.1 c.raw.new.buf)) (sym c.count.ensures)
     ∙ c.in-Ok-Quiet.ensures.said le ∙ ap (λ (o : GroupLine). Some o) c.in-Ok-Quiet.field-0-is) c.requires
@@ -179,16 +129,8 @@ returns-in-Ok-ForAll g c =
     let mid = outside c.raw.new.desk in
     let m = c.args.self.now in
     let found : ℕ × ℕ = (c.in-Some.line, c.in-Some.length) in
-    let is = ap (λ (o : Option (ℕ × ℕ)). Ok o) c.in-Some.is in
-    let was : WasRead m c.raw.new.self c.raw.new.buf found old mid =
-    record {
-      gives = λ rest left. says (Ok c.in_ok-line.field-0) (Ok (Some found)) m.trace c.raw.new.self rest c.raw.new.buf
-          _ is (c.in_ok-line.ensures.gives rest left);
-      moves = moved (Ok c.in_ok-line.field-0) (Ok (Some found)) m.trace c.raw.new.self is c.in_ok-line.ensures.moves;
-      others = c.raw.ensures.others;
-      rest = c.raw.ensures.rest;
-    }
-    in
+    let was = was_read m c.raw.new.self c.raw.new.buf c.in_ok-line.field-0 found old mid c.in-Some.is
+    c.in_ok-line.ensures.gives c.in_ok-line.ensures.moves c.raw.ensures.others c.raw.ensures.rest in
     line_done c.turning.ensures.lines c.turning.ensures.steps m c.raw.new.self c.raw.new.buf found old mid was ForAll
     (λ le. ap (λ (n : ℕ). group_line n (take found.1 c.raw.new.buf)) (sym c.count.ensures)
     ∙ c.in-Ok-ForAll.ensures.said le ∙ ap (λ (o : GroupLine). Some o) c.in-Ok-ForAll.field-0-is)
@@ -201,16 +143,8 @@ returns-in-Ok-Of g c =
     let mid = outside c.raw.new.desk in
     let m = c.args.self.now in
     let found : ℕ × ℕ = (c.in-Some.line, c.in-Some.length) in
-    let is = ap (λ (o : Option (ℕ × ℕ)). Ok o) c.in-Some.is in
-    let was : WasRead m c.raw.new.self c.raw.new.buf found old mid =
-    record {
-      gives = λ rest left. says (Ok c.in_ok-line.field-0) (Ok (Some found)) m.trace c.raw.new.self rest c.raw.new.buf
-          _ is (c.in_ok-line.ensures.gives rest left);
-      moves = moved (Ok c.in_ok-line.field-0) (Ok (Some found)) m.trace c.raw.new.self is c.in_ok-line.ensures.moves;
-      others = c.raw.ensures.others;
-      rest = c.raw.ensures.rest;
-    }
-    in
+    let was = was_read m c.raw.new.self c.raw.new.buf c.in_ok-line.field-0 found old mid c.in-Some.is
+    c.in_ok-line.ensures.gives c.in_ok-line.ensures.moves c.raw.ensures.others c.raw.ensures.rest in
     line_done c.turning.ensures.lines c.turning.ensures.steps m c.raw.new.self c.raw.new.buf found old mid was
     (Of c.in-Ok-Of.place c.in-Ok-Of.event)
     (λ le. ap (λ (n : ℕ). group_line n (take found.1 c.raw.new.buf)) (sym c.count.ensures) ∙ c.in-Ok-Of.ensures.said le
@@ -224,16 +158,8 @@ returns-in-Err g c =
     let mid = outside c.raw.new.desk in
     let m = c.args.self.now in
     let found : ℕ × ℕ = (c.in-Some.line, c.in-Some.length) in
-    let is = ap (λ (o : Option (ℕ × ℕ)). Ok o) c.in-Some.is in
-    let was : WasRead m c.raw.new.self c.raw.new.buf found old mid =
-    record {
-      gives = λ rest left. says (Ok c.in_ok-line.field-0) (Ok (Some found)) m.trace c.raw.new.self rest c.raw.new.buf
-          _ is (c.in_ok-line.ensures.gives rest left);
-      moves = moved (Ok c.in_ok-line.field-0) (Ok (Some found)) m.trace c.raw.new.self is c.in_ok-line.ensures.moves;
-      others = c.raw.ensures.others;
-      rest = c.raw.ensures.rest;
-    }
-    in
+    let was = was_read m c.raw.new.self c.raw.new.buf c.in_ok-line.field-0 found old mid c.in-Some.is
+    c.in_ok-line.ensures.gives c.in_ok-line.ensures.moves c.raw.ensures.others c.raw.ensures.rest in
     let status = TraceRefused (BadLine c.in-Some.line) in
     turn_gave_up m _ old mid (Err status) status refl tt tt (c.turning.ensures.steps.reads old mid c.raw.ensures.rest)
     (line_bad c.turning.ensures.lines c.turning.ensures.steps m c.raw.new.self c.raw.new.buf found old mid was
