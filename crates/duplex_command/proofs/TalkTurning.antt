@@ -156,6 +156,28 @@ pub record WasRead (m : Talk) (after : TracePlace) (buf : List ℕ) (found : ℕ
   pub others : (r : Role) → r ≢ Events → mid.left r ≡ old.left r
   pub rest : OnlyReads old mid
 
+pub was_read : (m : Talk) (after : TracePlace) (buf : List ℕ) (o : Option (ℕ × ℕ)) (found : ℕ × ℕ) (old mid : Outside)
+    → o ≡ Some found → ((text : List ℕ) → old.left Events ≡ Some text
+    → BytesGive (Ok o) m.trace text buf after (mid.left Events)) → Moves (Ok o) m.trace after
+    → ((r : Role) → r ≢ Events → mid.left r ≡ old.left r) → OnlyReads old mid → WasRead m after buf found old mid
+was_read m after buf o found old mid is gives moves others rest =
+    let known = ap (λ (x : Option (ℕ × ℕ)). let q : Result (Option (ℕ × ℕ)) TraceStop = Ok x in q) is in
+    record {
+      gives = λ text left. says (Ok o) (Ok (Some found)) m.trace after text buf (mid.left Events) known
+          (gives text left);
+      moves = moved (Ok o) (Ok (Some found)) m.trace after known moves;
+      others = others;
+      rest = rest;
+    }
+
+-- of the inputs nothing but the trace was read, by a reader that was where the state says
+pub reads_trace : (old mid : Outside) → ((r : Role) → r ≢ Events → mid.left r ≡ old.left r) → OnlyReads old mid
+    → (inputs : Role → List ℕ) → Tells old inputs → ReadsTrace inputs old mid
+reads_trace old mid others rest inputs told = record { told = told; others = others; written = rest.written }
+
+pub is_at : (m : Talk) (s : DuplexState) (inputs : Role → List ℕ) → TalkStands m s inputs → IsReadAt s m.trace
+is_at m s inputs k = record { lines_are = k.lines; ended_is = k.ended }
+
 module _ (lines : LineLaws) (steps : StepLaws) (m : Talk) (after : TracePlace) (buf : List ℕ) (found : ℕ
     × ℕ) (old mid : Outside) (w : WasRead m after buf found old mid) where
   module _ (s : DuplexState) (inputs : Role → List ℕ) (k : TalkStands m s inputs) (told : Tells old inputs) where
@@ -163,10 +185,10 @@ module _ (lines : LineLaws) (steps : StepLaws) (m : Talk) (after : TracePlace) (
     e = w.gives (inputs Events) (told Events refl)
 
     only : ReadsTrace inputs old mid
-    only = record { told = told; others = w.others; written = w.rest.written }
+    only = reads_trace old mid w.others w.rest inputs told
 
     at : IsReadAt s m.trace
-    at = record { lines_are = k.lines; ended_is = k.ended }
+    at = is_at m s inputs k
 
     fits : found.1 ≤ length buf
     fits = take_within found.1 buf (ap (λ (l : List ℕ). length l) e.2 ∙ e.1)

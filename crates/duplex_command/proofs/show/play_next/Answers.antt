@@ -41,5 +41,6 @@ returns-clause-err g c = λ p ways left holds may.
     (c.reference_of_next-reference.ensures p x far ways left holds may)
     (c.shown.ensures.holds p x c.play-played.new.far (with_play (sides p) x ways) after)
     in
-    on_err_weaker c.show_row.result (λ gains. subst (λ (t : Role → List ℕ). GainsFronts t (outside c.args.desk.now).written
+    on_err_weaker c.show_row.result (λ gains. subst (λ (t : Role → List ℕ). GainsFronts t
+    (outside c.args.desk.now).written
     (outside c.show_row.new.desk).written) row gains) c.show_row.ensures.err

@@ -10,7 +10,7 @@ use Rattle.duplex_command.specs.declared.event.TraceLine.{TraceLine}
 use Rattle.duplex_command.specs.declared.talk.Talk.{Talk}
 use Rattle.duplex_command.specs.Standing.{DuplexOpens, StationsReady}
 use Rattle.duplex_command.proofs.LineTurning.{read_out, trace_cut, trace_ends, trace_stops}
-use Rattle.duplex_command.proofs.TalkTurning.{line_bad, line_done, line_empty, moved, says, turn_gave_up, turn_is_over, turn_was_cut}
+use Rattle.duplex_command.proofs.TalkTurning.{is_at, line_bad, line_done, line_empty, reads_trace, says, turn_gave_up, turn_is_over, turn_was_cut, was_read}
 use Rattle.duplex_command.proofs.talk.Talk.line_turn.Goals as goal
 
 pub returns-in_err-line : goal.returns-in_err-line
@@ -26,14 +26,8 @@ returns-in_err-line g c =
     (λ is. c.in_err-line.ensures.cause (ap (λ e. Err e) is)))
     (c.turning.ensures.steps.reads old mid c.raw.ensures.rest)
     (λ s inputs k told.
-    trace_stops c.turning.ensures.lines s inputs old mid (record {
-      told = told;
-      others = c.raw.ensures.others;
-      written = c.raw.ensures.rest.written;
-    }) m.trace c.raw.new.self (record {
-      lines_are = k.lines;
-      ended_is = k.ended;
-    }) c.raw.new.buf stop
+    trace_stops c.turning.ensures.lines s inputs old mid (reads_trace old mid c.raw.ensures.others c.raw.ensures.rest
+    inputs told) m.trace c.raw.new.self (is_at m s inputs k) c.raw.new.buf stop
     (c.in_err-line.ensures.gives (inputs Events) (told Events refl)) c.in_err-line.ensures.moves)
 
 pub returns-in_err-tell_counts : goal.returns-in_err-tell_counts
@@ -53,14 +47,8 @@ returns-in_err-tell_counts g c =
     let e = says (Ok c.in_ok-line.field-0) (Ok None) m.trace c.raw.new.self (inputs Events) c.raw.new.buf _
     (ap (λ (o : Option (ℕ × ℕ)). Ok o) c.in_default.is) (c.in_ok-line.ensures.gives (inputs Events)
     (told Events refl)) in
-    trace_cut c.turning.ensures.lines s inputs old mid (record {
-      told = told;
-      others = c.raw.ensures.others;
-      written = c.raw.ensures.rest.written;
-    }) m.trace c.raw.new.self (record {
-      lines_are = k.lines;
-      ended_is = k.ended;
-    }) c.raw.new.buf e k.over
+    trace_cut c.turning.ensures.lines s inputs old mid (reads_trace old mid c.raw.ensures.others c.raw.ensures.rest
+    inputs told) m.trace c.raw.new.self (is_at m s inputs k) c.raw.new.buf e k.over
     new c.tell_counts.ensures.rest.left (c.in_err-tell_counts.ensures.err s.params s.ways k.holds))
 
 pub returns-in_default : goal.returns-in_default
@@ -77,27 +65,15 @@ returns-in_default g c =
     let e = says (Ok c.in_ok-line.field-0) (Ok None) m.trace c.raw.new.self (inputs Events) c.raw.new.buf _
     (ap (λ (o : Option (ℕ × ℕ)). Ok o) c.in_default.is) (c.in_ok-line.ensures.gives (inputs Events)
     (told Events refl)) in
-    trace_ends c.turning.ensures.lines s inputs old mid (record {
-      told = told;
-      others = c.raw.ensures.others;
-      written = c.raw.ensures.rest.written;
-    }) m.trace c.raw.new.self (record {
-      lines_are = k.lines;
-      ended_is = k.ended;
-    }) c.raw.new.buf e k.over
+    trace_ends c.turning.ensures.lines s inputs old mid (reads_trace old mid c.raw.ensures.others c.raw.ensures.rest
+    inputs told) m.trace c.raw.new.self (is_at m s inputs k) c.raw.new.buf e k.over
     new c.tell_counts.ensures.rest.left (c.in_ok-tell_counts.ensures.ok s.params s.ways k.holds))
     (λ s inputs k told.
     let e = says (Ok c.in_ok-line.field-0) (Ok None) m.trace c.raw.new.self (inputs Events) c.raw.new.buf _
     (ap (λ (o : Option (ℕ × ℕ)). Ok o) c.in_default.is) (c.in_ok-line.ensures.gives (inputs Events)
     (told Events refl)) in
-    read_out c.turning.ensures.lines s inputs old mid (record {
-      told = told;
-      others = c.raw.ensures.others;
-      written = c.raw.ensures.rest.written;
-    }) m.trace c.raw.new.self (record {
-      lines_are = k.lines;
-      ended_is = k.ended;
-    }) c.raw.new.buf e k.over new c.tell_counts.ensures.rest.left)
+    read_out c.turning.ensures.lines s inputs old mid (reads_trace old mid c.raw.ensures.others c.raw.ensures.rest
+    inputs told) m.trace c.raw.new.self (is_at m s inputs k) c.raw.new.buf e k.over new c.tell_counts.ensures.rest.left)
 
 -- ---- after a line
 
@@ -118,7 +94,6 @@ returns-in-Ok-Some g c =
     let new = outside c.event_turn.new.desk in
     let m = c.args.self.now in
     let found : ℕ × ℕ = (c.in-Some.line, c.in-Some.length) in
-    let is = ap (λ (o : Option (ℕ × ℕ)). Ok o) c.in-Some.is in
     let said : TraceLine = record { line = c.in-Some.line; party = c.in-Ok-Some.party; event = c.in-Ok-Some.event } in
     let out = c.event_turn.new.frame in
     let y : Talk = record {
@@ -128,14 +103,8 @@ returns-in-Ok-Some g c =
       frame = with_items m.frame out;
     } in
     line_done c.turning.ensures.lines c.turning.ensures.steps m c.raw.new.self c.raw.new.buf found old mid
-    (record {
-      gives = λ rest left. says (Ok c.in_ok-line.field-0) (Ok (Some found)) m.trace c.raw.new.self rest c.raw.new.buf
-          _ is (c.in_ok-line.ensures.gives rest left);
-      moves = moved (Ok c.in_ok-line.field-0) (Ok (Some found)) m.trace c.raw.new.self is c.in_ok-line.ensures.moves;
-      others = c.raw.ensures.others;
-      rest = c.raw.ensures.rest;
-    })
-    said refl (λ le. c.in-Ok-Some.ensures le
+    (was_read m c.raw.new.self c.raw.new.buf c.in_ok-line.field-0 found old mid c.in-Some.is c.in_ok-line.ensures.gives
+    c.in_ok-line.ensures.moves c.raw.ensures.others c.raw.ensures.rest) said refl (λ le. c.in-Ok-Some.ensures le
     ∙ ap (λ o. Some o) c.in-Ok-Some.field-0-is) c.requires y c.event_turn.result new _ refl
     (ap (λ (l : List ℕ). length l) (with_items_is m.frame out (omega (
       arith,
@@ -152,15 +121,9 @@ returns-in-Ok-None g c =
     let mid = outside c.raw.new.desk in
     let m = c.args.self.now in
     let found : ℕ × ℕ = (c.in-Some.line, c.in-Some.length) in
-    let is = ap (λ (o : Option (ℕ × ℕ)). Ok o) c.in-Some.is in
     line_empty c.turning.ensures.lines c.turning.ensures.steps m c.raw.new.self c.raw.new.buf found old mid
-    (record {
-      gives = λ rest left. says (Ok c.in_ok-line.field-0) (Ok (Some found)) m.trace c.raw.new.self rest c.raw.new.buf
-          _ is (c.in_ok-line.ensures.gives rest left);
-      moves = moved (Ok c.in_ok-line.field-0) (Ok (Some found)) m.trace c.raw.new.self is c.in_ok-line.ensures.moves;
-      others = c.raw.ensures.others;
-      rest = c.raw.ensures.rest;
-    })
+    (was_read m c.raw.new.self c.raw.new.buf c.in_ok-line.field-0 found old mid c.in-Some.is c.in_ok-line.ensures.gives
+    c.in_ok-line.ensures.moves c.raw.ensures.others c.raw.ensures.rest)
     (λ le. c.in-Ok-None.ensures le ∙ ap (λ o. Some o) c.in-Ok-None.field-0-is) c.requires
     (c.turning.ensures.turns.no_text mid.written mid.written refl)
 
@@ -171,15 +134,9 @@ returns-in-Err g c =
     let mid = outside c.raw.new.desk in
     let m = c.args.self.now in
     let found : ℕ × ℕ = (c.in-Some.line, c.in-Some.length) in
-    let is = ap (λ (o : Option (ℕ × ℕ)). Ok o) c.in-Some.is in
     let status = TraceRefused (BadLine c.in-Some.line) in
     turn_gave_up m _ old mid (Err status) status refl tt tt (c.turning.ensures.steps.reads old mid c.raw.ensures.rest)
     (line_bad c.turning.ensures.lines c.turning.ensures.steps m c.raw.new.self c.raw.new.buf found old mid
-    (record {
-      gives = λ rest left. says (Ok c.in_ok-line.field-0) (Ok (Some found)) m.trace c.raw.new.self rest c.raw.new.buf
-          _ is (c.in_ok-line.ensures.gives rest left);
-      moves = moved (Ok c.in_ok-line.field-0) (Ok (Some found)) m.trace c.raw.new.self is c.in_ok-line.ensures.moves;
-      others = c.raw.ensures.others;
-      rest = c.raw.ensures.rest;
-    })
+    (was_read m c.raw.new.self c.raw.new.buf c.in_ok-line.field-0 found old mid c.in-Some.is c.in_ok-line.ensures.gives
+    c.in_ok-line.ensures.moves c.raw.ensures.others c.raw.ensures.rest)
     c.in-Err.ensures)
