@@ -1,5 +1,5 @@
 -- The texts of a receiver's picture, and those of the counts.
-use Rattle.std.proofs.Common.{◌≡◌, ◌⊎◌, inl, inr, ℕ, zero, suc, ◌+◌, ◌<◌, ◌≤◌, List, ◌∷◌, length, codes, Option, Some, refl, subst, arith}
+use Rattle.std.proofs.Common.{◌≡◌, ◌⊎◌, inl, inr, ℕ, zero, suc, ◌+◌, ◌<◌, ◌≤◌, List, ◌∷◌, length, codes, Option, Some, Result, Ok, Err, OnErr, refl, subst, arith}
 use Rattle.std.proofs.lemmas.Bool.{cases_lt}
 use Rattle.h263_types.specs.declared.format.Format.{Format}
 use Rattle.h263_types.specs.declared.params.Params.{Params}
@@ -25,6 +25,10 @@ use Rattle.call_command.specs.Rows.{row_texts}
 use Rattle.group_sender.specs.Holding.{Groups}
 use Rattle.group_call.specs.Viewing.{ViewerRun, view_play}
 use Rattle.group_command.specs.Group.{counts_of_view, viewers_heads, pictures_at, played_texts}
+
+pub on_err : {T E P : Type 0} (r : Result T E) → P → OnErr r P
+on_err (Ok x) p = tt
+on_err (Err e) p = p
 
 -- the row of a play that is told so
 pub row_is : (p : Params) (k : ℕ) (run : Groups) (view : ViewerRun) (role : Role) (digit number : ℕ) (mark : Mark)
