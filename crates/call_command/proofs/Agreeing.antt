@@ -48,7 +48,7 @@ event_agrees : (s : CallState) (inputs : Role → List ℕ) (trace : List ℕ) (
 event_agrees s inputs trace says.Nothing same played = refl
 event_agrees s inputs trace says.Send same played =
     ap (λ (seen : Seen). unless_refused (s.lines + 1) trace Send (refused_by s Send seen) (capture_step s trace
-        (inputs Video))) same
+    (inputs Video))) same
 event_agrees s inputs trace (says.Packet n j) same played =
     ap (λ (seen : Seen). unless_refused (s.lines + 1) trace (Deliver n j) (refused_by s (Deliver n j) seen)
     (goes (after_line (with_packet s n j) trace) (line_turn trace no_texts))) same

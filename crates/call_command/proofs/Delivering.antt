@@ -88,7 +88,7 @@ delivered_goes_on m y line event said n j mid network receiver events is names s
     (λ o s inputs b.
     let k = b.stood in
     subst (λ (q : CallParts). Went (event_step by_ends s inputs (inputs Events) said) (PartsStand q) may_read true
-        inputs o
+    inputs o
     mid) (sym same)
     (event_goes x s inputs k x.sender receiver (record x.link { network = network }) refl refl turns o mid b.taken said
     (events s)

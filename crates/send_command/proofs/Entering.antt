@@ -203,4 +203,4 @@ other_entry s inputs place entry (inl packet) at =
     ∙ ap (λ (n : ℕ). no_step (bad_entry (BadRecord n))) (sym at)
 other_entry s inputs place entry (inr play) at =
     ap (λ (e : Entry). sender_entry_step s inputs (Some e)) play ∙ ap (λ (n : ℕ). no_step (bad_entry (BadRecord n)))
-        (sym at)
+    (sym at)

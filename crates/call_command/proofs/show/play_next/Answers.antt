@@ -48,5 +48,6 @@ returns-clause-err g c = λ p sender before frames past begun h may.
     (laws.shown sender c.play-played.new.receiver before frames (Play ∷ past) (picture c.shown.result)
     after.way_holds.joined c.shown.ensures.run)
     in
-    on_err_weaker c.show_row.result (λ gains. subst (λ (t : Role → List ℕ). GainsFronts t (outside c.args.desk.now).written
+    on_err_weaker c.show_row.result (λ gains. subst (λ (t : Role → List ℕ). GainsFronts t
+    (outside c.args.desk.now).written
     (outside c.show_row.new.desk).written) row gains) c.show_row.ensures.err
