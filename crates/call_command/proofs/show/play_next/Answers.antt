@@ -1,3 +1,4 @@
+-- What is written of a play is the row of the picture that the ends have come to.
 use Rattle.std.proofs.Common.{ℕ, ◌<◌, List, ◌∷◌, sym, ap, subst, ◌∙◌, arith}
 use Rattle.std.proofs.lemmas.Result.{on_err_weaker, on_ok_weaker}
 use Rattle.h263_outside.specs.declared.desk.Role.{Role}
