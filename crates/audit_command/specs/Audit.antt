@@ -10,7 +10,7 @@ use Rattle.desk_program.specs.Texts.{no_texts, on}
 use Rattle.log_command.specs.Log.{LogRules, LogState, log_begin, log_step}
 use Rattle.stream_audit.specs.Stream.{LogEntry, Sent, Fed}
 use Rattle.stream_audit.specs.Logs.{verdict_on}
-use Rattle.stream_audit.specs.State.{Stands}
+use Rattle.stream_audit.specs.State.{StandsForLog}
 use Rattle.stream_audit.specs.Text.{verdict_line}
 use Rattle.audit_command.specs.declared.audit.Auditing.{Auditing}
 
@@ -50,7 +50,7 @@ audit_step s inputs = log_step audit_rules s inputs
 
 pub record AuditStands (c : Auditing) (s : AuditState) : Type 0 where
   pub params : s.params ≡ c.audit.params
-  pub audit : Stands c.audit s.past
+  pub audit : StandsForLog c.audit s.past
 
 pub record AuditOpens (p : Params) (attached : Role → Bool) : Type 0 where
   pub params : IsParams p

@@ -12,7 +12,7 @@ use Rattle.h263_types.specs.Clocks.{period_of}
 use Rattle.back_messages.specs.declared.message.Message.{Message}
 use Rattle.back_messages.specs.declared.message.Message.TheVariants.{Ack, Nack}
 use Rattle.back_messages.specs.declared.message.MessageFault.{MessageFault}
-use Rattle.back_messages.specs.Text.{AreMarks, IsMessage, urf_of, first_text, marks_of, fault_of, value_of, is_long, message_fault, message_value}
+use Rattle.back_messages.specs.Text.{AreMarks, IsMessage, urf_of, first_text, message_marks, first_field_fault, message_of_fields, is_long, message_fault, message_value}
 
 -- ---- what is written
 
@@ -113,7 +113,8 @@ pub record IsFaultless (clock : Clock) (long : Bool) (type urf tr marker rtr : �
   pub rtr_low : rtr < period_of clock
   pub pair : type ≡ 3 → tr ≡ rtr
 
-faultless : (clock : Clock) (long : Bool) (type urf tr marker rtr : ℕ) → fault_of clock long type urf tr marker rtr
+faultless : (clock : Clock) (long : Bool) (type urf tr marker rtr : ℕ)
+    → first_field_fault clock long type urf tr marker rtr
     ≡ None → IsFaultless clock long type urf tr marker rtr
 faultless clock long type urf tr marker rtr e =
     let a = passed _ _ _ e in
@@ -139,7 +140,7 @@ pub record IsValue (clock : Clock) (n : ℕ) (m : Message) : Type 0 where
 value_is : (clock : Clock) (long : Bool) (type urf tr marker rtr n : ℕ) (marks : Option ℕ)
     → IsFaultless clock long type urf tr marker rtr → urf ≡ urf_of marks → AreMarks marks → type < 4 → marker < 2
     → type * 2 ^ 22 + urf * 2 ^ 21 + tr * 2 ^ 11 + marker * 2 ^ 10 + rtr ≡ n
-    → IsValue clock n (value_of type tr rtr marks)
+    → IsValue clock n (message_of_fields type tr rtr marks)
 value_is clock long type urf tr marker rtr n marks f u are t k e = at_type (type == 2) refl
   where
     one : marker ≡ 1
@@ -180,11 +181,11 @@ unfolding message_fault
 fault_length clock long n e = (faultless clock long (n / 2 ^ 22) (n / 2 ^ 21 % 2) (n / 2 ^ 11 % 2 ^ 10) (n / 2 ^ 10 % 2)
     (n % 2 ^ 10) e).length
 
-pub value_marks : (n : ℕ) (marks : Option ℕ) → marks_of (message_value n marks) ≡ marks
+pub value_marks : (n : ℕ) (marks : Option ℕ) → message_marks (message_value n marks) ≡ marks
 unfolding message_value
 value_marks n marks = at_type (n / 2 ^ 22 == 2)
   where
-    at_type : (b : Bool) → marks_of (cond b (Nack (n / 2 ^ 11 % 2 ^ 10) (n % 2 ^ 10) marks)
+    at_type : (b : Bool) → message_marks (cond b (Nack (n / 2 ^ 11 % 2 ^ 10) (n % 2 ^ 10) marks)
         (Ack (n / 2 ^ 11 % 2 ^ 10) marks)) ≡ marks
     at_type true = refl
     at_type false = refl
@@ -204,11 +205,11 @@ below_test : (clock : Clock) (tr : ℕ) → tr < period_of clock → nat_le (per
 below_test clock tr h = lt-leb (period_of clock) tr h
 
 ack_free : (clock : Clock) (tr : ℕ) (marks : Option ℕ) → tr < period_of clock
-    → fault_of clock (is_marked_by marks) 3 (urf_of marks) tr 1 tr ≡ None
+    → first_field_fault clock (is_marked_by marks) 3 (urf_of marks) tr 1 tr ≡ None
 ack_free clock tr marks h = rw (urf_is marks, below_test clock tr h, eq-eqb tr tr refl) refl
 
 nack_free : (clock : Clock) (tr rtr : ℕ) (marks : Option ℕ) → tr < period_of clock → rtr < period_of clock
-    → fault_of clock (is_marked_by marks) 2 (urf_of marks) tr 1 rtr ≡ None
+    → first_field_fault clock (is_marked_by marks) 2 (urf_of marks) tr 1 rtr ≡ None
 nack_free clock tr rtr marks h k = rw (urf_is marks, below_test clock tr h, below_test clock rtr k) refl
 
 -- the parts of a message's number
@@ -230,19 +231,19 @@ parts type urf tr rtr k u t r = record {
 }
 
 fault_parts : (clock : Clock) (long : Bool) (n type urf tr rtr : ℕ) → HasParts n type urf tr rtr
-    → message_fault clock long n ≡ fault_of clock long type urf tr 1 rtr
+    → message_fault clock long n ≡ first_field_fault clock long type urf tr 1 rtr
 unfolding message_fault
 fault_parts clock long n type urf tr rtr p = rw (p.type_is, p.urf_is, p.tr_is, p.marker_is, p.rtr_is) refl
 
 value_parts : (n type urf tr rtr : ℕ) (marks : Option ℕ) → HasParts n type urf tr rtr
-    → message_value n marks ≡ value_of type tr rtr marks
+    → message_value n marks ≡ message_of_fields type tr rtr marks
 unfolding message_value
 value_parts n type urf tr rtr marks p = rw (p.type_is, p.tr_is, p.rtr_is) refl
 
 -- the number of a message has no fault, and stands for that message
 pub record IsCode (clock : Clock) (m : Message) : Type 0 where
-  pub free : message_fault clock (is_marked_by (marks_of m)) (code_of m) ≡ None
-  pub value : message_value (code_of m) (marks_of m) ≡ m
+  pub free : message_fault clock (is_marked_by (message_marks m)) (code_of m) ≡ None
+  pub value : message_value (code_of m) (message_marks m) ≡ m
 
 pub code_is : (clock : Clock) (m : Message) → IsMessage clock m → IsCode clock m
 code_is clock (Ack tr marks) h =
@@ -260,6 +261,6 @@ code_is clock (Nack tr rtr marks) h =
       value = value_parts _ 2 (urf_of marks) tr rtr marks p;
     }
 
-pub range_marks : (clock : Clock) (m : Message) → IsMessage clock m → AreMarks (marks_of m)
+pub range_marks : (clock : Clock) (m : Message) → IsMessage clock m → AreMarks (message_marks m)
 range_marks clock (Ack tr marks) h = h.1
 range_marks clock (Nack tr rtr marks) h = h.2

@@ -10,21 +10,21 @@ use Rattle.h263_bits.specs.declared.fault.FaultKind.TheVariants as faults
 use Rattle.h263_bits.specs.Bits.{bits_of, number, spelled, fields}
 use Rattle.h263_bits.specs.Reading.{Bits}
 use Rattle.h263_bits.specs.Syntax.{any, either, part, done, same_bit, reading}
-use Rattle.h263_bits.specs.Elements.{Faults}
+use Rattle.h263_bits.specs.Elements.{ElementFaults}
 use Rattle.h263_bits.proofs.SyntaxLaws.{length-spelled, length-bits_of, length-fields, number-spelled, spelled-append, first_fault_is}
 use Rattle.h263_types.specs.declared.clock.Clock.{Clock}
 use Rattle.h263_types.specs.Clocks.{period_of}
 use Rattle.back_messages.specs.declared.message.Message.{Message}
 use Rattle.back_messages.specs.declared.message.MessageFault.{MessageFault}
 use Rattle.back_messages.specs.declared.message.MessageFault.TheVariants.{Length, Kind, High, Marker, Pair}
-use Rattle.back_messages.specs.Text.{fault_of, message_fault, is_long, is_fault, message_value, allowed_message, allowed_markers, has_markers, marks_in, message_in, flags, message}
-use Rattle.back_messages.specs.Rows.{First, Holds, HoldsFlags, urf_in, IsRight, HasFirst, wrong_kind, other_urf, high_tr, zero_marker, high_rtr, other_pair, IsMessageFault, other_length, in_short, in_long, in_flags, IsFieldFault, cut, refused, cut_flags, refused_flags}
+use Rattle.back_messages.specs.Text.{first_field_fault, message_fault, is_long, is_fault, message_value, allowed_message, allowed_markers, has_markers, marks_in, message_in, flags, message}
+use Rattle.back_messages.specs.Rows.{First, HoldsFields, HoldsFlags, urf_in, IsRight, HasFirst, wrong_kind, other_urf, high_tr, zero_marker, high_rtr, other_pair, IsMessageFault, other_length, in_short, in_long, in_flags, IsMessageFieldFault, cut, refused, cut_flags, refused_flags}
 use Rattle.back_messages.proofs.Codes.{first_number, first_number_text}
 use Rattle.back_messages.proofs.Texts.{number_small, number_text, message_productive}
 
 -- ---- the fields of a number
 
-number_holds : (f : First) (bits : List Bool) → Holds bits f
+number_holds : (f : First) (bits : List Bool) → HoldsFields bits f
     → number bits ≡ first_number f.type f.urf f.tr f.marker f.rtr
 number_holds f bits h =
     let n = first_number f.type f.urf f.tr f.marker f.rtr in
@@ -40,8 +40,8 @@ number_holds f bits h =
     below type urf tr marker rtr t u r m s = omega arith
 
 -- the fault of a number is that of its fields
-fault_holds : (clock : Clock) (is_long : Bool) (f : First) (bits : List Bool) → Holds bits f
-    → message_fault clock is_long (number bits) ≡ fault_of clock is_long f.type f.urf f.tr f.marker f.rtr
+fault_holds : (clock : Clock) (is_long : Bool) (f : First) (bits : List Bool) → HoldsFields bits f
+    → message_fault clock is_long (number bits) ≡ first_field_fault clock is_long f.type f.urf f.tr f.marker f.rtr
 unfolding message_fault
 fault_holds clock is_long f bits h =
     let e = number_holds f bits h in
@@ -92,7 +92,7 @@ fault_holds clock is_long f bits h =
     ) in
     rw (type, urf, tr, marker, rtr) refl
 
-urf_holds : (f : First) (bits : List Bool) → Holds bits f → number bits / 2 ^ 21 % 2 ≡ f.urf
+urf_holds : (f : First) (bits : List Bool) → HoldsFields bits f → number bits / 2 ^ 21 % 2 ≡ f.urf
 urf_holds f bits h = omega (
   arith,
   number_holds f bits h,
@@ -106,7 +106,7 @@ urf_holds f bits h = omega (
 -- the fields of 24 bits
 record AreFirst (bits : List Bool) : Type 0 where
   fields : First
-  holds : Holds bits fields
+  holds : HoldsFields bits fields
 
 first_of : (bits : List Bool) → length bits ≡ 24 → AreFirst bits
 first_of bits len =
@@ -146,7 +146,7 @@ unlike false u small other = rw (eq-eqb u 1 (omega (arith, small, other))) refl
 
 -- what the fields have, once URF is looked at
 from_first : (clock : Clock) (is_long : Bool) (f : First) (fault : MessageFault) → f.urf < 2
-    → HasFirst clock is_long f fault → fault_of clock is_long f.type f.urf f.tr f.marker f.rtr ≡ Some fault
+    → HasFirst clock is_long f fault → first_field_fault clock is_long f.type f.urf f.tr f.marker f.rtr ≡ Some fault
 from_first clock is_long f fault small (wrong_kind lt) = rw (lt-ltb f.type 2 lt) refl
 from_first clock is_long f fault small (other_urf high other) = rw (
   le-ltb f.type 2 high,
@@ -183,7 +183,7 @@ from_first clock is_long f fault small (other_pair is low one low2 three other) 
     ) refl
 
 right_first : (clock : Clock) (is_long : Bool) (f : First) → IsRight clock is_long f
-    → fault_of clock is_long f.type f.urf f.tr f.marker f.rtr ≡ None
+    → first_field_fault clock is_long f.type f.urf f.tr f.marker f.rtr ≡ None
 right_first clock is_long f r =
     rw (
       le-ltb f.type 2 r.type_high,
@@ -445,7 +445,7 @@ bytes_faults clock bytes fault = (
 
 -- ---- a message in a picture header
 
-holds_length : (f : First) (bits : List Bool) → Holds bits f → length bits ≡ 24
+holds_length : (f : First) (bits : List Bool) → HoldsFields bits f → length bits ≡ 24
 holds_length f bits h = ap length h.text
     ∙ length-fields ((2, f.type) ∷ (1, f.urf) ∷ (10, f.tr) ∷ (1, f.marker) ∷ (10, f.rtr) ∷ [])
 
@@ -455,7 +455,7 @@ flags_length bits first second h = ap length h.text
 
 -- a row of the table
 abbrev InField : Clock → List Bool → FaultKind → List Bool → Type 0
-InField clock bits kind front = (place : ℕ) × (length front ≡ place) × IsFieldFault clock bits kind place
+InField clock bits kind front = (place : ℕ) × (length front ≡ place) × IsMessageFieldFault clock bits kind place
 
 messages_is : (o : Option MessageFault) (kind : FaultKind) → is_fault o ≡ Some kind → (kind ≡ faults.Messages)
     × ((o ≡ None) → ⊥)
@@ -465,12 +465,13 @@ messages_is (Some d) kind e = (cc, λ none. cc)
 free_is : (o : Option MessageFault) (d : MessageFault) → o ≡ Some d → is_fault o ≡ None → ⊥
 free_is o d e g = cc
 
-is_urf : (f : First) (bits : List Bool) → Holds bits f → is_long (number bits) ≡ (f.urf == 1)
+is_urf : (f : First) (bits : List Bool) → HoldsFields bits f → is_long (number bits) ≡ (f.urf == 1)
 is_urf f bits h = ap (λ (u : ℕ). u == 1) (urf_holds f bits h)
 
 -- the fields after URF said the length
-allowed_holds : (clock : Clock) (f : First) (bits : List Bool) → Holds bits f → allowed_message clock (number bits)
-    ≡ is_fault (fault_of clock (f.urf == 1) f.type f.urf f.tr f.marker f.rtr)
+allowed_holds : (clock : Clock) (f : First) (bits : List Bool) → HoldsFields bits f
+    → allowed_message clock (number bits)
+    ≡ is_fault (first_field_fault clock (f.urf == 1) f.type f.urf f.tr f.marker f.rtr)
 allowed_holds clock f bits h =
     ap (λ (t : Bool). is_fault (message_fault clock t (number bits))) (is_urf f bits h)
     ∙ ap is_fault (fault_holds clock (f.urf == 1) f bits h)
@@ -478,28 +479,30 @@ allowed_holds clock f bits h =
 -- what a row has is found: the bits before the fault, and what is left with it
 abbrev Within : Clock → List Bool → FaultKind → ℕ → Type 0
 Within clock bits kind place = (front left : List Bool) × (bits ≡ front ++ left) × (length front ≡ place)
-    × Faults (message clock) front left kind
+    × ElementFaults (message clock) front left kind
 
-field_text : (f : First) (bits : List Bool) → Holds bits f → bits ≡ spelled 24 (number bits)
+field_text : (f : First) (bits : List Bool) → HoldsFields bits f → bits ≡ spelled 24 (number bits)
 field_text f bits h = number_text 24 bits (holds_length f bits h)
 
-field_small : (f : First) (bits : List Bool) → Holds bits f → number bits < 2 ^ 24
+field_small : (f : First) (bits : List Bool) → HoldsFields bits f → number bits < 2 ^ 24
 field_small f bits h = number_small 24 bits (holds_length f bits h)
 
 -- right fields of a long message, and a fault of its flags
-after_first : (clock : Clock) (f : First) (bits left : List Bool) (kind : FaultKind) → Holds bits f
-    → IsRight clock true f → Faults flags [] left kind → Faults (message clock) bits left kind
-unfolding message Faults
+after_first : (clock : Clock) (f : First) (bits left : List Bool) (kind : FaultKind) → HoldsFields bits f
+    → IsRight clock true f → ElementFaults flags [] left kind → ElementFaults (message clock) bits left kind
+unfolding message ElementFaults
 after_first clock f bits left kind h right g =
     let long : (f.urf == 1) ≡ true = eq-eqb f.urf 1 right.urf_is in
     let is : is_long (number bits) ≡ true = is_urf f bits h ∙ long in
     let free : allowed_message clock (number bits) ≡ None =
-    allowed_holds clock f bits h ∙ ap (λ (t : Bool). is_fault (fault_of clock t f.type f.urf f.tr f.marker f.rtr)) long
+    allowed_holds clock f bits h
+    ∙ ap (λ (t : Bool). is_fault (first_field_fault clock t f.type f.urf f.tr f.marker f.rtr)) long
     ∙ ap is_fault (right_first clock true f right) in
-    let more : Faults (either (is_long (number bits))
+    let more : ElementFaults (either (is_long (number bits))
     (part flags any (λ marks. done (message_value (number bits) (Some marks))))
     (done (message_value (number bits) None))) [] left kind =
-    subst (λ (t : Bool). Faults (either t (part flags any (λ marks. done (message_value (number bits) (Some marks))))
+    subst (λ (t : Bool). ElementFaults
+    (either t (part flags any (λ marks. done (message_value (number bits) (Some marks))))
     (done (message_value (number bits) None))) [] left kind) (sym is) (inl g) in
     inr (
       number bits,
@@ -510,13 +513,13 @@ after_first clock f bits left kind h right g =
       more,
     )
 
-flags_cut : (left : List Bool) → length left < 16 → Faults flags [] left faults.Ended
-unfolding flags Faults
+flags_cut : (left : List Bool) → length left < 16 → ElementFaults flags [] left faults.Ended
+unfolding flags ElementFaults
 flags_cut left lt = inl (refl, inl (lt, refl))
 
 flags_refused : (middle rest : List Bool) (first second : ℕ) → HoldsFlags middle first second
-    → (first ≡ 0) ⊎ (second ≡ 0) → Faults flags [] (middle ++ rest) faults.Messages
-unfolding flags Faults
+    → (first ≡ 0) ⊎ (second ≡ 0) → ElementFaults flags [] (middle ++ rest) faults.Messages
+unfolding flags ElementFaults
 flags_refused middle rest first second h none =
     let len = flags_length middle first second h in
     let refused : allowed_markers (number middle) ≡ Some faults.Messages = rw (unmarked middle first second h none)
@@ -532,9 +535,10 @@ flags_refused middle rest first second h none =
       ),
     )
 
-from_field : (clock : Clock) (bits : List Bool) (kind : FaultKind) (place : ℕ) → IsFieldFault clock bits kind place
+from_field : (clock : Clock) (bits : List Bool) (kind : FaultKind) (place : ℕ)
+    → IsMessageFieldFault clock bits kind place
     → Within clock bits kind place
-unfolding message Faults
+unfolding message ElementFaults
 from_field clock bits kind place (cut lt) = ([], bits, refl, refl, inl (refl, inl (lt, refl)))
 from_field clock bits kind place (refused f front rest d parts h first) =
     let fault : allowed_message clock (number front) ≡ Some faults.Messages = allowed_holds clock f front h
@@ -572,16 +576,17 @@ refused_row : (clock : Clock) (n : ℕ) (rest : List Bool) (kind : FaultKind) �
 refused_row clock n rest kind small e =
     let f = first_at n in
     let same : allowed_message clock n
-    ≡ is_fault (fault_of clock (f.fields.urf == 1) f.fields.type f.fields.urf f.fields.tr f.fields.marker
+    ≡ is_fault (first_field_fault clock (f.fields.urf == 1) f.fields.type f.fields.urf f.fields.tr f.fields.marker
     f.fields.rtr) =
     ap (allowed_message clock) (sym (number_back 24 n small)) ∙ allowed_holds clock f.fields (spelled 24 n) f.holds in
-    let m = messages_is (fault_of clock (f.fields.urf == 1) f.fields.type f.fields.urf f.fields.tr f.fields.marker
+    let m = messages_is (first_field_fault clock (f.fields.urf == 1) f.fields.type f.fields.urf f.fields.tr
+    f.fields.marker
     f.fields.rtr) kind (sym same ∙ e) in
     elim (each_first clock (f.fields.urf == 1) f.fields f.holds.marker_small) [
       | inl r ↦ (
         0,
         refl,
-        subst (λ (k : FaultKind). IsFieldFault clock (spelled 24 n ++ rest) k 0) (sym m.0)
+        subst (λ (k : FaultKind). IsMessageFieldFault clock (spelled 24 n ++ rest) k 0) (sym m.0)
             (refused f.fields (spelled 24 n) rest r.0 refl f.holds r.1),
       )
       | inr right ↦ absurd (m.1 (right_first clock (f.fields.urf == 1) f.fields right))
@@ -594,9 +599,11 @@ allowed_right clock n f small e is =
     let h = f.holds in
     let long : (f.fields.urf == 1) ≡ true = sym (is_urf f.fields (spelled 24 n) h) ∙ ap is_long (number_back 24 n small)
     ∙ is in
-    let same : is_fault (fault_of clock true f.fields.type f.fields.urf f.fields.tr f.fields.marker f.fields.rtr)
+    let same : is_fault (first_field_fault clock true f.fields.type f.fields.urf f.fields.tr f.fields.marker
+    f.fields.rtr)
     ≡ None =
-    ap (λ (t : Bool). is_fault (fault_of clock t f.fields.type f.fields.urf f.fields.tr f.fields.marker f.fields.rtr))
+    ap (λ (t : Bool). is_fault (first_field_fault clock t f.fields.type f.fields.urf f.fields.tr f.fields.marker
+    f.fields.rtr))
     (sym long)
     ∙ sym (allowed_holds clock f.fields (spelled 24 n) h) ∙ ap (allowed_message clock) (number_back 24 n small) ∙ e in
     elim (each_first clock true f.fields h.marker_small) [
@@ -615,13 +622,13 @@ markers_is n kind e = by (has_markers n) refl e
     by true is g = absurd cc
     by false is g = (cc, is)
 
-flags_row : (clock : Clock) (f : First) (front left : List Bool) (kind : FaultKind) → Holds front f
-    → IsRight clock true f → Faults flags [] left kind → InField clock (front ++ left) kind front
-unfolding flags Faults
+flags_row : (clock : Clock) (f : First) (front left : List Bool) (kind : FaultKind) → HoldsFields front f
+    → IsRight clock true f → ElementFaults flags [] left kind → InField clock (front ++ left) kind front
+unfolding flags ElementFaults
 flags_row clock f front left kind h right (inl (none, inl lt)) = (
   24,
   holds_length f front h,
-  subst (λ (k : FaultKind). IsFieldFault clock (front ++ left) k 24) (sym lt.1)
+  subst (λ (k : FaultKind). IsMessageFieldFault clock (front ++ left) k 24) (sym lt.1)
       (cut_flags f front left refl h right lt.0),
 )
 flags_row clock f front left kind h right (inl (none, inr (n, rest, small, parts, e))) =
@@ -632,7 +639,7 @@ flags_row clock f front left kind h right (inl (none, inr (n, rest, small, parts
       | inl none2 ↦ (
         24,
         holds_length f front h,
-        subst (λ (k : FaultKind). IsFieldFault clock (front ++ left) k 24) (sym m.0)
+        subst (λ (k : FaultKind). IsMessageFieldFault clock (front ++ left) k 24) (sym m.0)
             (refused_flags f g.first g.second front (spelled 16 n) rest (ap (λ (t : List Bool). front ++ t) parts) h
             right g.holds none2),
       )
@@ -644,25 +651,25 @@ flags_row clock f front left kind h right (inl (none, inr (n, rest, small, parts
 flags_row clock f front left kind h right (inr g) = absurd g.5
 
 -- flags are one field
-nothing_before : (rest left : List Bool) (kind : FaultKind) → Faults flags rest left kind → rest ≡ []
-unfolding flags Faults
+nothing_before : (rest left : List Bool) (kind : FaultKind) → ElementFaults flags rest left kind → rest ≡ []
+unfolding flags ElementFaults
 nothing_before rest left kind (inl g) = g.0
 nothing_before rest left kind (inr g) = absurd g.5
 
-to_field : (clock : Clock) (front left : List Bool) (kind : FaultKind) → Faults (message clock) front left kind
+to_field : (clock : Clock) (front left : List Bool) (kind : FaultKind) → ElementFaults (message clock) front left kind
     → InField clock (front ++ left) kind front
-unfolding message Faults
+unfolding message ElementFaults
 to_field clock front left kind (inl (none, inl lt)) =
     let short : length (front ++ left) < 24 = omega (arith, length-append front left, ap length none, lt.0) in
-    (0, ap length none, subst (λ (k : FaultKind). IsFieldFault clock (front ++ left) k 0) (sym lt.1) (cut short))
+    (0, ap length none, subst (λ (k : FaultKind). IsMessageFieldFault clock (front ++ left) k 0) (sym lt.1) (cut short))
 to_field clock front left kind (inl (none, inr (n, rest, small, parts, e))) =
     let text : front ++ left ≡ spelled 24 n ++ rest = ap (λ (t : List Bool). t ++ left) none ∙ parts in
     let r = refused_row clock n rest kind small e in
-    (r.0, ap length none ∙ r.1, subst (λ (t : List Bool). IsFieldFault clock t kind r.0) (sym text) r.2)
+    (r.0, ap length none ∙ r.1, subst (λ (t : List Bool). IsMessageFieldFault clock t kind r.0) (sym text) r.2)
 to_field clock front left kind (inr (n, rest, small, free, parts, g)) = by (is_long n) refl g
   where
     by : (t : Bool) → is_long n ≡ t
-        → Faults (either t (part flags any (λ marks. done (message_value n (Some marks))))
+        → ElementFaults (either t (part flags any (λ marks. done (message_value n (Some marks))))
         (done (message_value n None))) rest left kind → InField clock (front ++ left) kind front
     by false is k = absurd k
     by true is (inr (inl k)) = absurd (none_some k.1.5)
@@ -676,19 +683,20 @@ to_field clock front left kind (inr (n, rest, small, free, parts, g)) = by (is_l
         let none = nothing_before rest left kind k in
         let text : front ≡ spelled 24 n = parts ∙ ap (λ (t : List Bool). spelled 24 n ++ t) none
         ∙ append-nil (spelled 24 n) in
-        let inner : Faults flags [] left kind = subst (λ (t : List Bool). Faults flags t left kind) none k in
+        let inner : ElementFaults flags [] left kind = subst (λ (t : List Bool). ElementFaults flags t left kind) none k
+        in
         subst (λ (t : List Bool). InField clock (t ++ left) kind t) (sym text)
         (flags_row clock f.fields (spelled 24 n) left kind f.holds right inner)
 
 pub field_faults : (clock : Clock) (b : Bits) (fault : Fault) → (reading (message clock) b ≡ Err fault)
-    ↔ ((place : ℕ) × (fault.at ≡ b.at + place) × IsFieldFault clock b.bits fault.kind place)
+    ↔ ((place : ℕ) × (fault.at ≡ b.at + place) × IsMessageFieldFault clock b.bits fault.kind place)
 field_faults clock b fault = (
   λ e.
       let f = (first_fault_is (message clock) b fault (message_productive clock)).0 e in
       let r = to_field clock f.0 f.1 fault.kind f.4 in (
         r.0,
         f.3 ∙ ap (λ (n : ℕ). b.at + n) r.1,
-        subst (λ (t : List Bool). IsFieldFault clock t fault.kind r.0)
+        subst (λ (t : List Bool). IsMessageFieldFault clock t fault.kind r.0)
             (sym f.2) r.2,
       ),
   λ r.

@@ -6,7 +6,7 @@ use Rattle.std.proofs.lemmas.Bool.{eqb-true}
 use Rattle.std.proofs.lemmas.List.{length-append, reverse-append, reverse-reverse, length-reverse, take_at, drop_at}
 use Rattle.h263_bits.specs.Bits.{spelled, number}
 use Rattle.h263_bits.proofs.SyntaxLaws.{and_both, length-spelled, number-append, number-lt, number-spelled, spelled-number, spelled-append, spelled-low}
-use Rattle.back_messages.specs.Text.{flags_of, flags_text, has_markers, marks_in}
+use Rattle.back_messages.specs.Text.{flags_in_field, flags_text, has_markers, marks_in}
 
 -- ---- seven bits, the last one first
 
@@ -34,7 +34,7 @@ split n =
     ∙ ap (λ (t : List Bool). spelled 7 (n / 2 ^ 7) ++ t) (sym (spelled-low 7 7 (n / 2 ^ 7) (n % 2 ^ 7) (omega arith))
     ∙ ap (spelled 7) (sym whole))
 
-pub flags_split : (marks : ℕ) → flags_of marks ≡ reverse (spelled 7 marks) ++ reverse (spelled 7 (marks / 2 ^ 7))
+pub flags_split : (marks : ℕ) → flags_in_field marks ≡ reverse (spelled 7 marks) ++ reverse (spelled 7 (marks / 2 ^ 7))
 flags_split marks = ap reverse (split marks) ∙ reverse-append (spelled 7 (marks / 2 ^ 7)) (spelled 7 marks)
 
 seven : (n : ℕ) → length (reverse (spelled 7 n)) ≡ 7
@@ -62,11 +62,12 @@ pub marks_text : (marks : ℕ) → spelled 16 (flags_code (turned marks) (turned
 marks_text marks =
     let a = reverse (spelled 7 marks) in
     let b = reverse (spelled 7 (marks / 2 ^ 7)) in
-    let first : take 7 (flags_of marks) ≡ a = ap (take 7) (flags_split marks) ∙ take_at a b 7 (seven marks) in
-    let second : drop 7 (flags_of marks) ≡ b = ap (drop 7) (flags_split marks) ∙ drop_at a b 7 (seven marks) in
+    let first : take 7 (flags_in_field marks) ≡ a = ap (take 7) (flags_split marks) ∙ take_at a b 7 (seven marks) in
+    let second : drop 7 (flags_in_field marks) ≡ b = ap (drop 7) (flags_split marks) ∙ drop_at a b 7 (seven marks) in
     code_spelled (turned marks) (turned (marks / 2 ^ 7)) (turned_low marks) (turned_low (marks / 2 ^ 7))
     ∙ ap (λ (t : List Bool). (true ∷ t) ++ (true ∷ spelled 7 (turned (marks / 2 ^ 7)))) (turned_text marks ∙ sym first)
-    ∙ ap (λ (t : List Bool). (true ∷ take 7 (flags_of marks)) ++ (true ∷ t)) (turned_text (marks / 2 ^ 7) ∙ sym second)
+    ∙ ap (λ (t : List Bool). (true ∷ take 7 (flags_in_field marks)) ++ (true ∷ t)) (turned_text (marks / 2 ^ 7)
+    ∙ sym second)
 
 -- ---- what is read
 
@@ -95,17 +96,18 @@ marked_text n h e =
     let b = spelled 7 n in
     let first_is : spelled 7 first ≡ a = low_bits (n / 2 ^ 8) in
     let second_is : spelled 7 second ≡ b = low_bits n in
-    let flags : flags_of (number (reverse (a ++ b))) ≡ a ++ b =
+    let flags : flags_in_field (number (reverse (a ++ b))) ≡ a ++ b =
     ap reverse (ap (λ (k : ℕ). spelled k (number (reverse (a ++ b)))) (sym (length-reverse (a ++ b)
     ∙ fourteen a b (length-spelled 7 (n / 2 ^ 8)) (length-spelled 7 n))) ∙ spelled-number (reverse (a ++ b)))
     ∙ reverse-reverse (a ++ b) in
-    let one : take 7 (flags_of (number (reverse (a ++ b)))) ≡ a = ap (take 7) flags
+    let one : take 7 (flags_in_field (number (reverse (a ++ b)))) ≡ a = ap (take 7) flags
     ∙ take_at a b 7 (length-spelled 7 (n / 2 ^ 8)) in
-    let two : drop 7 (flags_of (number (reverse (a ++ b)))) ≡ b = ap (drop 7) flags
+    let two : drop 7 (flags_in_field (number (reverse (a ++ b)))) ≡ b = ap (drop 7) flags
     ∙ drop_at a b 7 (length-spelled 7 (n / 2 ^ 8)) in
     ap (spelled 16) whole ∙ code_spelled first second (omega arith) (omega arith)
     ∙ ap (λ (t : List Bool). (true ∷ t) ++ (true ∷ spelled 7 second)) (first_is ∙ sym one)
-    ∙ ap (λ (t : List Bool). (true ∷ take 7 (flags_of (number (reverse (a ++ b))))) ++ (true ∷ t)) (second_is ∙ sym two)
+    ∙ ap (λ (t : List Bool). (true ∷ take 7 (flags_in_field (number (reverse (a ++ b))))) ++ (true ∷ t)) (second_is
+    ∙ sym two)
   where
     low_bits : (k : ℕ) → spelled 7 (k % 2 ^ 7) ≡ spelled 7 k
     low_bits k = let whole : k ≡ k / 2 ^ 7 * 2 ^ 7 + k % 2 ^ 7 = omega arith in
@@ -135,7 +137,7 @@ flags_read marks h =
     ∙ spelled-low 7 7 1 f (omega arith) ∙ turned_text marks in
     let second : spelled 7 n ≡ reverse (spelled 7 (marks / 2 ^ 7)) = ap (spelled 7) bottom
     ∙ spelled-low 7 7 (2 ^ 8 + f * 2 + 1) s (omega arith) ∙ turned_text (marks / 2 ^ 7) in
-    let both : spelled 7 (n / 2 ^ 8) ++ spelled 7 n ≡ flags_of marks =
+    let both : spelled 7 (n / 2 ^ 8) ++ spelled 7 n ≡ flags_in_field marks =
     ap (λ (t : List Bool). t ++ spelled 7 n) first ∙ ap (λ (t : List Bool). reverse (spelled 7 marks) ++ t) second
     ∙ sym (flags_split marks) in
     record {

@@ -13,7 +13,7 @@ use Rattle.back_messages.specs.declared.message.Message.{Message}
 use Rattle.back_messages.specs.declared.message.Message.TheVariants.{Ack, Nack}
 use Rattle.back_messages.specs.declared.message.MessageFault.{MessageFault}
 use Rattle.back_messages.specs.declared.message.MessageFault.TheVariants.{Length}
-use Rattle.back_messages.specs.Text.{AreMarks, IsMessage, first_fields, first_text, flags_text, message_text, marks_of, bits_with, message_bits, is_long, message_fault, message_value, has_markers, marks_in, marked, unless, short_message, with_marks, long_message, message_in, is_fault, allowed_message, allowed_markers, flags, message}
+use Rattle.back_messages.specs.Text.{AreMarks, IsMessage, message_fields, first_text, flags_text, message_text, message_marks, bits_with, message_bits, is_long, message_fault, message_value, has_markers, marks_in, marked, message_unless, short_message, with_marks, long_message, message_in, is_fault, allowed_message, allowed_markers, flags, message}
 use Rattle.back_messages.proofs.Codes.{code_of, first_is, first_below, IsValue, faultless_value, fault_length, value_marks, is_marked_by, code_is, range_marks}
 use Rattle.back_messages.proofs.Flags.{turned, turned_low, flags_code, marks_text, marks_low, marked_text, flags_read}
 
@@ -52,22 +52,23 @@ five_bytes n m h k =
     regroup : (a b c d e : List Bool) → a ++ (b ++ (c ++ (d ++ (e ++ [])))) ≡ (a ++ (b ++ c)) ++ (d ++ e)
     regroup a b c d e = simp (append_assoc, append-nil)
 
-pub text_short : (m : Message) → marks_of m ≡ None → message_text m ≡ first_text m
+pub text_short : (m : Message) → message_marks m ≡ None → message_text m ≡ first_text m
 unfolding message_text
 text_short m none = ap (λ (o : Option ℕ). first_text m ++ flags_text o) none ∙ append-nil (first_text m)
 
-pub text_long : (m : Message) (marks : ℕ) → marks_of m ≡ Some marks → message_text m ≡ first_text m
+pub text_long : (m : Message) (marks : ℕ) → message_marks m ≡ Some marks → message_text m ≡ first_text m
     ++ flags_text (Some marks)
 unfolding message_text
 text_long m marks some = ap (λ (o : Option ℕ). first_text m ++ flags_text o) some
 
-marks_below : (clock : Clock) (m : Message) (marks : ℕ) → IsMessage clock m → marks_of m ≡ Some marks → marks < 2 ^ 14
+marks_below : (clock : Clock) (m : Message) (marks : ℕ) → IsMessage clock m → message_marks m ≡ Some marks
+    → marks < 2 ^ 14
 marks_below clock m marks h some = let P : Option ℕ → Type 0 = AreMarks in subst P some (range_marks clock m h)
 
 number_is : (n v : ℕ) (bits : List Bool) → v < 2 ^ n → bits ≡ spelled n v → number bits ≡ v
 number_is n v bits lt e = ap number e ∙ number-spelled n v ∙ mod-eq_of_lt lt
 
-short_read : (clock : Clock) (m : Message) (bytes : List ℕ) → IsMessage clock m → marks_of m ≡ None
+short_read : (clock : Clock) (m : Message) (bytes : List ℕ) → IsMessage clock m → message_marks m ≡ None
     → bits_of bytes ≡ first_text m → message_in clock bytes ≡ Ok m
 unfolding message_in
 short_read clock m bytes h none e =
@@ -81,7 +82,8 @@ short_read clock m bytes h none e =
     let is : message_value (code_of m) None ≡ m = ap (message_value (code_of m)) (sym none) ∙ c.value in
     rw (len, value, free, is) refl
 
-long_read : (clock : Clock) (m : Message) (marks : ℕ) (bytes : List ℕ) → IsMessage clock m → marks_of m ≡ Some marks
+long_read : (clock : Clock) (m : Message) (marks : ℕ) (bytes : List ℕ) → IsMessage clock m
+    → message_marks m ≡ Some marks
     → bits_of bytes ≡ first_text m ++ flags_text (Some marks) → message_in clock bytes ≡ Ok m
 unfolding message_in
 long_read clock m marks bytes h some e =
@@ -117,20 +119,20 @@ long_read clock m marks bytes h some e =
 -- the text of a message is read as that message
 pub text_read : (clock : Clock) (m : Message) (bytes : List ℕ) → IsMessage clock m → bits_of bytes ≡ message_text m
     → message_in clock bytes ≡ Ok m
-text_read clock m bytes h e = at_marks (marks_of m) refl
+text_read clock m bytes h e = at_marks (message_marks m) refl
   where
-    at_marks : (o : Option ℕ) → marks_of m ≡ o → message_in clock bytes ≡ Ok m
+    at_marks : (o : Option ℕ) → message_marks m ≡ o → message_in clock bytes ≡ Ok m
     at_marks None is = short_read clock m bytes h is (e ∙ text_short m is)
     at_marks (Some marks) is = long_read clock m marks bytes h is (e ∙ text_long m marks is)
 
 -- ---- and nothing else is
 
-unless_ok : (o : Option MessageFault) (r : Result Message MessageFault) (m : Message) → unless o r ≡ Ok m
+unless_ok : (o : Option MessageFault) (r : Result Message MessageFault) (m : Message) → message_unless o r ≡ Ok m
     → (o ≡ None) × (r ≡ Ok m)
 unless_ok None r m e = (refl, e)
 unless_ok (Some x) r m e = absurd cc
 
-same_message : (v m : Message) → unless None (Ok v) ≡ Ok m → v ≡ m
+same_message : (v m : Message) → message_unless None (Ok v) ≡ Ok m → v ≡ m
 same_message v m e = cc
 
 -- a message, and the bits that spell it
@@ -147,14 +149,14 @@ pub short_is : (clock : Clock) (n : ℕ) (m : Message) → n < 2 ^ 24 → messag
     → message_value n None ≡ m → IsRead clock m (spelled 24 n)
 short_is clock n m small free is =
     let v = subst (IsValue clock n) is (faultless_value clock false n None small free tt tt) in
-    let none : marks_of m ≡ None = ap marks_of (sym is) ∙ value_marks n None in
+    let none : message_marks m ≡ None = ap message_marks (sym is) ∙ value_marks n None in
     (v.range, ap (spelled 24) (sym v.code) ∙ first_is clock m v.range ∙ sym (text_short m none))
 
 pub long_is : (clock : Clock) (n k : ℕ) (m : Message) → n < 2 ^ 24 → k < 2 ^ 16 → message_fault clock true n ≡ None
     → has_markers k ≡ true → message_value n (Some (marks_in k)) ≡ m → IsRead clock m (spelled 24 n ++ spelled 16 k)
 long_is clock n k m small low free marks is =
     let v = subst (IsValue clock n) is (faultless_value clock true n (Some (marks_in k)) small free tt (marks_low k)) in
-    let some : marks_of m ≡ Some (marks_in k) = ap marks_of (sym is) ∙ value_marks n (Some (marks_in k)) in (
+    let some : message_marks m ≡ Some (marks_in k) = ap message_marks (sym is) ∙ value_marks n (Some (marks_in k)) in (
       v.range,
       ap (λ (t : List Bool). t ++ spelled 16 k) (ap (spelled 24) (sym v.code) ∙ first_is clock m v.range)
           ∙ ap (λ (t : List Bool). first_text m ++ t) (marked_text k low marks) ∙ sym (text_long m (marks_in k) some),
@@ -239,19 +241,20 @@ unfolding message message_text
 field_spells clock m h =
     let c = code_is clock m h in
     let n : ℕ = code_of m in
-    let long : is_marked_by (marks_of m) ≡ is_long n = fault_length clock (is_marked_by (marks_of m)) n c.free in
+    let long : is_marked_by (message_marks m) ≡ is_long n = fault_length clock (is_marked_by (message_marks m)) n c.free
+    in
     let free : allowed_message clock n ≡ None = ap (λ (b : Bool). is_fault (message_fault clock b n)) (sym long)
     ∙ ap is_fault c.free in
     let more : Spells (either (is_long n) (part flags any (λ marks. done (message_value n (Some marks))))
-    (done (message_value n None))) m (flags_text (marks_of m)) =
+    (done (message_value n None))) m (flags_text (message_marks m)) =
     subst (λ (b : Bool). Spells (either b (part flags any (λ marks. done (message_value n (Some marks))))
-    (done (message_value n None))) m (flags_text (marks_of m))) long (at_marks (marks_of m) refl c.value) in
-    let text : spelled 24 n ++ flags_text (marks_of m) ≡ message_text m = ap (λ (t : List Bool). t
-    ++ flags_text (marks_of m)) (first_is clock m h) in
-    spells_whole _ m _ _ text (spells_field 24 (allowed_message clock) _ m n (flags_text (marks_of m))
+    (done (message_value n None))) m (flags_text (message_marks m))) long (at_marks (message_marks m) refl c.value) in
+    let text : spelled 24 n ++ flags_text (message_marks m) ≡ message_text m = ap (λ (t : List Bool). t
+    ++ flags_text (message_marks m)) (first_is clock m h) in
+    spells_whole _ m _ _ text (spells_field 24 (allowed_message clock) _ m n (flags_text (message_marks m))
     (first_below clock m h) free more)
   where
-    at_marks : (o : Option ℕ) → marks_of m ≡ o → message_value (code_of m) (marks_of m) ≡ m
+    at_marks : (o : Option ℕ) → message_marks m ≡ o → message_value (code_of m) (message_marks m) ≡ m
         → Spells (either (is_marked_by o) (part flags any (λ marks. done (message_value (code_of m) (Some marks))))
         (done (message_value (code_of m) None))) m (flags_text o)
     at_marks None is value = done_is _ m (ap (message_value (code_of m)) (sym is) ∙ value)
@@ -333,8 +336,8 @@ message_productive clock n = either_productive (is_long n)
 -- ---- its length
 
 length-first_text : (m : Message) → length (first_text m) ≡ 24
-length-first_text (Ack tr marks) = length-fields (first_fields 3 tr tr marks)
-length-first_text (Nack tr rtr marks) = length-fields (first_fields 2 tr rtr marks)
+length-first_text (Ack tr marks) = length-fields (message_fields 3 tr tr marks)
+length-first_text (Nack tr rtr marks) = length-fields (message_fields 2 tr rtr marks)
 
 length-flags_text : (marks : Option ℕ) → 24 + length (flags_text marks) ≡ bits_with marks
 length-flags_text None = refl
@@ -346,9 +349,9 @@ pub length-message_text : (m : Message) → length (message_text m) ≡ message_
 unfolding message_text
 length-message_text m = omega (
   arith,
-  length-append (first_text m) (flags_text (marks_of m)),
+  length-append (first_text m) (flags_text (message_marks m)),
   length-first_text m,
-  length-flags_text (marks_of m),
+  length-flags_text (message_marks m),
 )
 
 -- what is read of bytes has numbers of the clock

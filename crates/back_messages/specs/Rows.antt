@@ -20,7 +20,7 @@ pub record First : Type 0 where
   pub rtr : ℕ
 
 -- the bits are these fields
-pub record Holds (bits : List Bool) (f : First) : Type 0 where
+pub record HoldsFields (bits : List Bool) (f : First) : Type 0 where
   pub type_small : f.type < 4
   pub urf_small : f.urf < 2
   pub tr_small : f.tr < 1024
@@ -72,12 +72,12 @@ pub data HasFirst (clock : Clock) (long : Bool) (f : First) : MessageFault → T
 
 pub data IsMessageFault (clock : Clock) (bytes : List ℕ) : MessageFault → Type 0 where
   other_length : (length bytes ≡ 3 → ⊥) → (length bytes ≡ 5 → ⊥) → IsMessageFault clock bytes Length
-  in_short : (f : First) (fault : MessageFault) → length bytes ≡ 3 → Holds (bits_of bytes) f
+  in_short : (f : First) (fault : MessageFault) → length bytes ≡ 3 → HoldsFields (bits_of bytes) f
       → HasFirst clock false f fault → IsMessageFault clock bytes fault
-  in_long : (f : First) (fault : MessageFault) → length bytes ≡ 5 → Holds (bits_of (take 3 bytes)) f
+  in_long : (f : First) (fault : MessageFault) → length bytes ≡ 5 → HoldsFields (bits_of (take 3 bytes)) f
       → HasFirst clock true f fault → IsMessageFault clock bytes fault
   -- a byte of flags has no marker
-  in_flags : (f : First) (first second : ℕ) → length bytes ≡ 5 → Holds (bits_of (take 3 bytes)) f
+  in_flags : (f : First) (first second : ℕ) → length bytes ≡ 5 → HoldsFields (bits_of (take 3 bytes)) f
       → IsRight clock true f → HoldsFlags (bits_of (drop 3 bytes)) first second
       → (first ≡ 0) ⊎ (second ≡ 0) → IsMessageFault clock bytes Marker
 
@@ -85,13 +85,13 @@ pub data IsMessageFault (clock : Clock) (bytes : List ℕ) : MessageFault → Ty
 
 -- Bits that a header has a message in have this fault first, this many bits from their first. URF
 -- gives the length, and each fault of the message is one; the flags are a field of their own.
-pub data IsFieldFault (clock : Clock) (bits : List Bool) : FaultKind → ℕ → Type 0 where
-  cut : length bits < 24 → IsFieldFault clock bits Ended 0
-  refused : (f : First) (front rest : List Bool) (fault : MessageFault) → bits ≡ front ++ rest → Holds front f
-      → HasFirst clock (f.urf == 1) f fault → IsFieldFault clock bits Messages 0
-  cut_flags : (f : First) (front rest : List Bool) → bits ≡ front ++ rest → Holds front f
-      → IsRight clock true f → length rest < 16 → IsFieldFault clock bits Ended 24
+pub data IsMessageFieldFault (clock : Clock) (bits : List Bool) : FaultKind → ℕ → Type 0 where
+  cut : length bits < 24 → IsMessageFieldFault clock bits Ended 0
+  refused : (f : First) (front rest : List Bool) (fault : MessageFault) → bits ≡ front ++ rest → HoldsFields front f
+      → HasFirst clock (f.urf == 1) f fault → IsMessageFieldFault clock bits Messages 0
+  cut_flags : (f : First) (front rest : List Bool) → bits ≡ front ++ rest → HoldsFields front f
+      → IsRight clock true f → length rest < 16 → IsMessageFieldFault clock bits Ended 24
   refused_flags : (f : First) (first second : ℕ) (front middle rest : List Bool)
-      → bits ≡ front ++ (middle ++ rest) → Holds front f
+      → bits ≡ front ++ (middle ++ rest) → HoldsFields front f
       → IsRight clock true f → HoldsFlags middle first second
-      → (first ≡ 0) ⊎ (second ≡ 0) → IsFieldFault clock bits Messages 24
+      → (first ≡ 0) ⊎ (second ≡ 0) → IsMessageFieldFault clock bits Messages 24

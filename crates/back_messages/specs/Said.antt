@@ -3,8 +3,8 @@ use Rattle.std.specs.Prelude.{◌≡◌, ℕ, List, [], ◌∷◌, take, drop}
 use Rattle.back_messages.specs.declared.writing.Said.{Said}
 
 -- the bytes of the message
-abbrev pub text_of : Said → List ℕ
-text_of said = take said.len said.bytes
+abbrev pub text_of_said : Said → List ℕ
+text_of_said said = take said.len said.bytes
 
 -- after a message of three bytes the others are 0
 abbrev pub IsFilled : Said → Type 0

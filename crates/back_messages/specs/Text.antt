@@ -29,29 +29,29 @@ abbrev pub urf_of : Option ℕ → ℕ
 urf_of None = 0
 urf_of (Some marks) = 1
 
-abbrev pub first_fields : ℕ → ℕ → ℕ → Option ℕ → List (ℕ × ℕ)
-first_fields type tr rtr marks = (2, type) ∷ (1, urf_of marks) ∷ (10, tr) ∷ (1, 1) ∷ (10, rtr) ∷ []
+abbrev pub message_fields : ℕ → ℕ → ℕ → Option ℕ → List (ℕ × ℕ)
+message_fields type tr rtr marks = (2, type) ∷ (1, urf_of marks) ∷ (10, tr) ∷ (1, 1) ∷ (10, rtr) ∷ []
 
 -- flag j, which says that the picture after TR by j + 1 is complete, is bit j of the marks
-abbrev pub flags_of : ℕ → List Bool
-flags_of marks = reverse (spelled 14 marks)
+abbrev pub flags_in_field : ℕ → List Bool
+flags_in_field marks = reverse (spelled 14 marks)
 
 -- two bytes, each a marker and seven flags
 abbrev pub flags_text : Option ℕ → List Bool
 flags_text None = []
-flags_text (Some marks) = (true ∷ take 7 (flags_of marks)) ++ (true ∷ drop 7 (flags_of marks))
+flags_text (Some marks) = (true ∷ take 7 (flags_in_field marks)) ++ (true ∷ drop 7 (flags_in_field marks))
 
 -- an Ack repeats its temporal reference
 abbrev pub first_text : Message → List Bool
-first_text (Ack tr marks) = fields (first_fields 3 tr tr marks)
-first_text (Nack tr rtr marks) = fields (first_fields 2 tr rtr marks)
+first_text (Ack tr marks) = fields (message_fields 3 tr tr marks)
+first_text (Nack tr rtr marks) = fields (message_fields 2 tr rtr marks)
 
-abbrev pub marks_of : Message → Option ℕ
-marks_of (Ack tr marks) = marks
-marks_of (Nack tr rtr marks) = marks
+abbrev pub message_marks : Message → Option ℕ
+message_marks (Ack tr marks) = marks
+message_marks (Nack tr rtr marks) = marks
 
 unfoldable pub message_text : Message → List Bool
-message_text m = first_text m ++ flags_text (marks_of m)
+message_text m = first_text m ++ flags_text (message_marks m)
 
 abbrev pub bits_with : Option ℕ → ℕ
 bits_with None = 24
@@ -59,13 +59,13 @@ bits_with (Some marks) = 40
 
 -- how many bits the text has
 abbrev pub message_bits : Message → ℕ
-message_bits m = bits_with (marks_of m)
+message_bits m = bits_with (message_marks m)
 
 -- ---- what is read
 
 -- the first fault of the fields in their order, where the message is of three bytes, or long, of five
-abbrev pub fault_of : Clock → Bool → ℕ → ℕ → ℕ → ℕ → ℕ → Option MessageFault
-fault_of clock long type urf tr marker rtr =
+abbrev pub first_field_fault : Clock → Bool → ℕ → ℕ → ℕ → ℕ → ℕ → Option MessageFault
+first_field_fault clock long type urf tr marker rtr =
     if nat_lt type 2 then Some Kind
     else if not (same_bit long (urf == 1)) then Some Length
     else if nat_le (period_of clock) tr then Some High
@@ -74,8 +74,8 @@ fault_of clock long type urf tr marker rtr =
     else if (type == 3) && not (tr == rtr) then Some Pair
     else None
 
-abbrev pub value_of : ℕ → ℕ → ℕ → Option ℕ → Message
-value_of type tr rtr marks = if type == 2 then Nack tr rtr marks else Ack tr marks
+abbrev pub message_of_fields : ℕ → ℕ → ℕ → Option ℕ → Message
+message_of_fields type tr rtr marks = if type == 2 then Nack tr rtr marks else Ack tr marks
 
 -- URF
 abbrev pub is_long : ℕ → Bool
@@ -83,12 +83,12 @@ is_long n = n / 2 ^ 21 % 2 == 1
 
 -- the first fault of the message's first 24 bits
 unfoldable pub message_fault : Clock → Bool → ℕ → Option MessageFault
-message_fault clock long n = fault_of clock long
+message_fault clock long n = first_field_fault clock long
     (n / 2 ^ 22) (n / 2 ^ 21 % 2) (n / 2 ^ 11 % 2 ^ 10) (n / 2 ^ 10 % 2) (n % 2 ^ 10)
 
 -- the value of these bits with marks
 unfoldable pub message_value : ℕ → Option ℕ → Message
-message_value n marks = value_of (n / 2 ^ 22) (n / 2 ^ 11 % 2 ^ 10) (n % 2 ^ 10) marks
+message_value n marks = message_of_fields (n / 2 ^ 22) (n / 2 ^ 11 % 2 ^ 10) (n % 2 ^ 10) marks
 
 -- both bytes of flags begin with their marker
 abbrev pub has_markers : ℕ → Bool
@@ -102,13 +102,13 @@ marks_in n = number (reverse (spelled 7 (n / 2 ^ 8) ++ spelled 7 n))
 abbrev pub marked : ℕ → Option ℕ
 marked n = if has_markers n then Some (marks_in n) else None
 
-abbrev pub unless : Option MessageFault → Result Message MessageFault → Result Message MessageFault
-unless None read = read
-unless (Some fault) read = Err fault
+abbrev pub message_unless : Option MessageFault → Result Message MessageFault → Result Message MessageFault
+message_unless None read = read
+message_unless (Some fault) read = Err fault
 
 -- the message of 24 bits
 abbrev pub short_message : Clock → ℕ → Result Message MessageFault
-short_message clock n = unless (message_fault clock false n) (Ok (message_value n None))
+short_message clock n = message_unless (message_fault clock false n) (Ok (message_value n None))
 
 abbrev pub with_marks : ℕ → Option ℕ → Result Message MessageFault
 with_marks n None = Err Marker
@@ -116,7 +116,7 @@ with_marks n (Some marks) = Ok (message_value n (Some marks))
 
 -- the message of 24 bits, and of 16 with its flags
 abbrev pub long_message : Clock → ℕ → ℕ → Result Message MessageFault
-long_message clock n flags = unless (message_fault clock true n) (with_marks n (marked flags))
+long_message clock n flags = message_unless (message_fault clock true n) (with_marks n (marked flags))
 
 -- the message that bytes spell
 unfoldable pub message_in : Clock → List ℕ → Result Message MessageFault

@@ -7,7 +7,7 @@ ghost use Rattle.h263_bits.specs.Syntax.{Spells, reading};
 ghost use Rattle.h263_types.specs.declared.clock.Clock.{Clock};
 ghost use Rattle.back_messages.specs.Text.{IsMessage, message_text, message_in, message};
 ghost use Rattle.back_messages.specs.Laws.{MessageLaws};
-ghost use Rattle.back_messages.specs.Rows.{IsMessageFault, IsFieldFault};
+ghost use Rattle.back_messages.specs.Rows.{IsMessageFault, IsMessageFieldFault};
 ghost use Rattle.back_messages.specs.declared.message.Message.{Message};
 ghost use Rattle.back_messages.specs.declared.message.MessageFault.{MessageFault};
 
@@ -26,7 +26,7 @@ pub fn first_faults()
         → (message_in clock bytes ≡ Err fault) ↔ IsMessageFault clock bytes fault }
     ensures field { (clock : Clock) (b : Bits) (fault : Fault)
         → (reading (message clock) b ≡ Err fault)
-        ↔ ((place : ℕ) × (fault.at ≡ b.at + place) × IsFieldFault clock b.bits fault.kind place) }
+        ↔ ((place : ℕ) × (fault.at ≡ b.at + place) × IsMessageFieldFault clock b.bits fault.kind place) }
 {}
 
 /// In a header the text of a message is the same bits.

@@ -20,11 +20,11 @@ pub enum Message {
 
 impl Message {
     ghost use Rattle.std.specs.Prelude.{◌≡◌};
-    ghost use Rattle.back_messages.specs.Text.{marks_of};
+    ghost use Rattle.back_messages.specs.Text.{message_marks};
 
     /// The marks of a message of version 2.
     pub fn marks(&self) -> Option<u16>
-        ensures { result ≡ marks_of self.now }
+        ensures { result ≡ message_marks self.now }
     {
         match *self {
             Message::Ack { tr: _, marks } => marks,

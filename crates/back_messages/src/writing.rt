@@ -4,8 +4,8 @@ ghost use Rattle.h263_bits.specs.Bits.{bits_of, fields, spelled};
 ghost use Rattle.h263_bits.specs.Written.{Appends, len_of, room_of};
 ghost use Rattle.h263_types.specs.declared.clock.Clock.{Clock};
 ghost use Rattle.h263_types.specs.declared.clock.Clock.TheVariants.{Custom};
-ghost use Rattle.back_messages.specs.Text.{IsMessage, urf_of, first_fields, first_text, flags_text, message_text, marks_of, message_bits, message_in};
-ghost use Rattle.back_messages.specs.Said.{text_of, IsFilled};
+ghost use Rattle.back_messages.specs.Text.{IsMessage, urf_of, message_fields, first_text, flags_text, message_text, message_marks, message_bits, message_in};
+ghost use Rattle.back_messages.specs.Said.{text_of_said, IsFilled};
 
 use crate::message::Message;
 use crate::reading::turned;
@@ -20,11 +20,11 @@ pub struct Said {
 
 impl Said {
     ghost use Rattle.std.specs.Prelude.{◌≡◌};
-    ghost use Rattle.back_messages.specs.Said.{text_of};
+    ghost use Rattle.back_messages.specs.Said.{text_of_said};
 
     /// The message's bytes.
     pub fn text(&self) -> &[u8]
-        ensures { result.now ≡ text_of self.now }
+        ensures { result.now ≡ text_of_said self.now }
     {
         let len = self.len.min(5) as usize;
         &self.bytes[..len]
@@ -45,7 +45,7 @@ fn code_from(kind: u32, tr: u16, rtr: u16, marks: Option<u16>) -> u32
     requires kind { kind < 4 }
     requires tr { tr < 2 ^ 10 }
     requires rtr { rtr < 2 ^ 10 }
-    ensures text { spelled 24 result ≡ fields (first_fields kind tr rtr marks) }
+    ensures text { spelled 24 result ≡ fields (message_fields kind tr rtr marks) }
     ensures below { result < 2 ^ 24 }
 {
     (kind << 22) + (urf(marks) << 21) + ((tr as u32) << 11) + (1 << 10) + rtr as u32
@@ -75,11 +75,11 @@ fn flags_code(marks: u16) -> u32
 /// The bytes of a message. A reader whose clock has its temporal references reads it again.
 pub fn write(message: &Message) -> Said
     requires { IsMessage Custom message.now }
-    ensures text { bits_of (text_of result) ≡ message_text message.now }
+    ensures text { bits_of (text_of_said result) ≡ message_text message.now }
     ensures len { 8 * result.len ≡ message_bits message.now }
     ensures filled { IsFilled result }
     ensures again { (clock : Clock)
-        → IsMessage clock message.now → message_in clock (text_of result) ≡ Ok message.now }
+        → IsMessage clock message.now → message_in clock (text_of_said result) ≡ Ok message.now }
 {
     let code = first_code(message);
     let first = (code >> 16) as u8;

@@ -5,9 +5,9 @@ use Rattle.std.specs.List.{list_all}
 use Rattle.std.proofs.lemmas.Bool.{leb-true}
 use Rattle.h263_types.specs.Marks.{is_zero}
 use Rattle.h263_bits.proofs.SyntaxLaws.{and_both, length-fields}
-use Rattle.code_tables.specs.Tables.{Coefficient, rows_of, last_0_texts, last_1_texts, triple_text, word_or_escape, escape_fields, event_text, size_of, sign_text}
-use Rattle.block_layer.specs.Text.{none_left, events_of, events_text, levels_text, coded_text, intra_text, inter_text}
-use Rattle.block_layer.specs.Laws.{AreShort}
+use Rattle.code_tables.specs.Tables.{Coefficient, texts_of_last, last_0_texts, last_1_texts, triple_text, word_or_escape, escape_fields, event_text, size_of, sign_text}
+use Rattle.block_layer.specs.Text.{none_left, coefficients_of, events_text, levels_text, coded_text, intra_text, inter_text}
+use Rattle.block_layer.specs.Laws.{AreBlocksShort}
 use Rattle.block_layer.specs.Step.{one_event}
 use Rattle.block_layer.proofs.Steps.{intra_length}
 
@@ -19,7 +19,7 @@ is_short w = nat_le (length w) 12
 row_short : List (List Bool) → Bool
 row_short row = list_all is_short row
 
-all_short : (last : Bool) → list_all row_short (rows_of last) ≡ true
+all_short : (last : Bool) → list_all row_short (texts_of_last last) ≡ true
 unfolding last_0_texts last_1_texts is_short row_short
 all_short false = refl
 all_short true = refl
@@ -35,13 +35,13 @@ at_place test (y ∷ xs) (suc i) x all e = let p = and_both (test y) (list_all t
 
 word_short : (last : Bool) (run size : ℕ) (w : List Bool) → triple_text last run size ≡ Some w → length w ≤ 12
 unfolding triple_text is_short row_short
-word_short last run size w e = at (slice_get (rows_of last) run) refl e
+word_short last run size w e = at (slice_get (texts_of_last last) run) refl e
   where
-    at : (o : Option (List (List Bool))) → slice_get (rows_of last) run ≡ o
+    at : (o : Option (List (List Bool))) → slice_get (texts_of_last last) run ≡ o
         → option_and_then (λ row. slice_get row (size - 1)) o ≡ Some w → length w ≤ 12
     at None is got = cc
     at (Some row) is got =
-        let short : row_short row ≡ true = at_place row_short (rows_of last) run row (all_short last) is in
+        let short : row_short row ≡ true = at_place row_short (texts_of_last last) run row (all_short last) is in
         leb-true (length w) 12 (at_place is_short row (size - 1) w short got)
 
 sign_short : (z : ℤ) → length (sign_text z) ≤ 1
@@ -67,20 +67,21 @@ event_short e = at (triple_text e.last e.run (size_of e.level)) refl
 
 -- ---- a block
 
-events_short : (run : ℕ) (zs : List ℤ) → length (events_text (events_of run zs)) ≤ 22 * length zs
-unfolding events_of events_text
+events_short : (run : ℕ) (zs : List ℤ) → length (events_text (coefficients_of run zs)) ≤ 22 * length zs
+unfolding coefficients_of events_text
 events_short run [] = omega arith
 events_short run (z ∷ zs) = at (is_zero z) (events_short (run + 1) zs) (events_short 0 zs)
   where
-    at : (t : Bool) → length (events_text (events_of (run + 1) zs)) ≤ 22 * length zs
-        → length (events_text (events_of 0 zs)) ≤ 22 * length zs
-        → length (events_text (cond t (events_of (run + 1) zs) (one_event (none_left zs) run z ∷ events_of 0 zs))) ≤ 22
+    at : (t : Bool) → length (events_text (coefficients_of (run + 1) zs)) ≤ 22 * length zs
+        → length (events_text (coefficients_of 0 zs)) ≤ 22 * length zs
+        → length (events_text (cond t (coefficients_of (run + 1) zs)
+        (one_event (none_left zs) run z ∷ coefficients_of 0 zs))) ≤ 22
         * length (z ∷ zs)
     at true more again = omega arith
     at false more again = omega (
       arith,
       event_short (one_event (none_left zs) run z),
-      length-append (event_text (one_event (none_left zs) run z)) (events_text (events_of 0 zs)),
+      length-append (event_text (one_event (none_left zs) run z)) (events_text (coefficients_of 0 zs)),
     )
 
 inter_short : (levels : List ℤ) → length levels ≡ 64 → length (inter_text levels) ≤ 64 * 22
@@ -91,7 +92,7 @@ coded_short : (levels : List ℤ) → length levels ≡ 64 → length (coded_tex
 unfolding levels_text
 coded_short levels long = at (none_left (drop 1 levels))
   where
-    at : (t : Bool) → length (cond (not t) (events_text (events_of 0 (drop 1 levels))) []) ≤ 63 * 22
+    at : (t : Bool) → length (cond (not t) (events_text (coefficients_of 0 (drop 1 levels))) []) ≤ 63 * 22
     at true = omega arith
     at false = omega (arith, events_short 0 (drop 1 levels), length-drop 1 levels)
 
@@ -99,5 +100,5 @@ intra_short : (levels : List ℤ) → length levels ≡ 64 → length (intra_tex
 intra_short levels long = omega (arith, intra_length levels, coded_short levels long)
 
 -- how many bits the texts of a block have at most
-pub are_short : AreShort
+pub are_short : AreBlocksShort
 are_short = record { intra = intra_short; inter = inter_short }

@@ -10,8 +10,8 @@ use Rattle.std.proofs.lemmas.Simd.{trailing_mask_l}
 use lib.Count.{count_trailing_zeros}
 use Rattle.h263_types.specs.Marks.{is_zero, marks_of}
 use Rattle.code_tables.specs.Tables.{Coefficient, event_text}
-use Rattle.block_layer.specs.Text.{none_left, events_of, events_text}
-use Rattle.block_layer.specs.Step.{level_at, one_event}
+use Rattle.block_layer.specs.Text.{none_left, coefficients_of, events_text}
+use Rattle.block_layer.specs.Step.{level_in_list, one_event}
 use Rattle.block_layer.proofs.Steps.{left_text}
 
 -- ---- after the first ones
@@ -59,12 +59,13 @@ is_passed z = not (not (is_zero z))
 -- after k zeros the first event is that of the level there
 record First (run k : ℕ) (levels : List ℤ) : Type 0 where
   inside : k < length levels
-  events : events_of run levels ≡ one_event (none_left (drop (suc k) levels)) (run + k) (level_at levels k) ∷ events_of
+  events : coefficients_of run levels ≡ one_event (none_left (drop (suc k) levels)) (run + k) (level_in_list levels k) ∷
+      coefficients_of
       0 (drop (suc k) levels)
 
 first_event : (run k : ℕ) (levels : List ℤ) → none_left levels ≡ false → prefix_len is_passed levels ≡ k
     → First run k levels
-unfolding events_of
+unfolding coefficients_of
 first_event run k [] some e = absurd cc
 first_event run k (z ∷ levels) some e =
     let first = at (is_zero z) k e some (λ k' some' e'. first_event (run + 1) k' levels some' e') in
@@ -74,19 +75,21 @@ first_event run k (z ∷ levels) some e =
         ≡ false
         → ((k : ℕ) → none_left levels ≡ false → prefix_len is_passed levels ≡ k → First (run + 1) k levels)
         → (k < suc (length levels))
-        × (cond t (events_of (run + 1) levels) (one_event (none_left levels) run z ∷ events_of 0 levels)
-        ≡ one_event (none_left (drop k levels)) (run + k) (level_at (z ∷ levels) k) ∷ events_of 0 (drop k levels))
+        × (cond t (coefficients_of (run + 1) levels) (one_event (none_left levels) run z ∷ coefficients_of 0 levels)
+        ≡ one_event (none_left (drop k levels)) (run + k) (level_in_list (z ∷ levels) k) ∷ coefficients_of 0
+        (drop k levels))
     at true zero e some more = absurd (omega (arith, e))
     at true (suc k) e some more =
         let first = more k some (omega (arith, e)) in (
           omega (arith, first.inside),
           first.events
-              ∙ ap (λ (r : ℕ). one_event (none_left (drop (suc k) levels)) r (level_at levels k) ∷ events_of 0
+              ∙ ap (λ (r : ℕ). one_event (none_left (drop (suc k) levels)) r (level_in_list levels k) ∷ coefficients_of
+              0
               (drop (suc k) levels)) (omega arith),
         )
     at false zero e some more = (
       omega arith,
-      ap (λ (r : ℕ). one_event (none_left levels) r z ∷ events_of 0 levels)
+      ap (λ (r : ℕ). one_event (none_left levels) r z ∷ coefficients_of 0 levels)
           (omega arith),
     )
     at false (suc k) e some more = absurd (omega (arith, e))
@@ -98,14 +101,14 @@ first_event run k (z ∷ levels) some e =
 -- with its event
 pub record Next (place run left : ℕ) (levels : List ℤ) : Type 0 where
   pub inside : place + run < 64
-  pub some : is_zero (level_at levels (place + run)) ≡ false
+  pub some : is_zero (level_in_list levels (place + run)) ≡ false
   pub marked : left / 2 ^ run / 2 ≡ marks_of (drop (place + run + 1) levels)
   pub last : eqb (left / 2 ^ run / 2) 0 ≡ none_left (drop (place + run + 1) levels)
   pub text : left_text 0 place levels
-      ≡ event_text (one_event (eqb (left / 2 ^ run / 2) 0) run (level_at levels (place + run)))
+      ≡ event_text (one_event (eqb (left / 2 ^ run / 2) 0) run (level_in_list levels (place + run)))
       ++ left_text 0 (place + run + 1) levels
   pub length : length (left_text 0 place levels)
-      ≡ length (event_text (one_event (eqb (left / 2 ^ run / 2) 0) run (level_at levels (place + run)))) + length
+      ≡ length (event_text (one_event (eqb (left / 2 ^ run / 2) 0) run (level_in_list levels (place + run)))) + length
       (left_text 0 (place + run + 1) levels)
 
 not_passed : (b : Bool) → not (not b) ≡ false → b ≡ false
@@ -131,16 +134,16 @@ module _ (place run left : ℕ) (levels : List ℤ) (long : length levels ≡ 64
   rest_is : drop (suc run) (drop place levels) ≡ drop (place + run + 1) levels
   rest_is = drop-drop (suc run) place levels ∙ ap (λ (n : ℕ). drop n levels) (omega arith)
 
-  there : is_zero (level_at levels (place + run)) ≡ false
+  there : is_zero (level_in_list levels (place + run)) ≡ false
   there =
       let inside : prefix_len is_passed (drop place levels) < length (drop place levels) = omega (
         arith,
         first.inside,
         prefix,
       ) in
-      not_passed (is_zero (level_at levels (place + run)))
+      not_passed (is_zero (level_in_list levels (place + run)))
       (ap (λ (z : ℤ). is_passed z) (sym (get_or-drop place levels run (pos 0)))
-      ∙ ap (λ (n : ℕ). is_passed (level_at (drop place levels) n)) (sym prefix)
+      ∙ ap (λ (n : ℕ). is_passed (level_in_list (drop place levels) n)) (sym prefix)
       ∙ prefix_len_stops is_passed (drop place levels) (pos 0) inside)
 
   marked : left / 2 ^ run / 2 ≡ marks_of (drop (place + run + 1) levels)
@@ -155,22 +158,22 @@ module _ (place run left : ℕ) (levels : List ℤ) (long : length levels ≡ 64
   last = ap (λ (n : ℕ). eqb n 0) marked ∙ none_marked (drop (place + run + 1) levels)
 
   text : left_text 0 place levels
-      ≡ event_text (one_event (eqb (left / 2 ^ run / 2) 0) run (level_at levels (place + run)))
+      ≡ event_text (one_event (eqb (left / 2 ^ run / 2) 0) run (level_in_list levels (place + run)))
       ++ left_text 0 (place + run + 1) levels
   unfolding events_text
   text =
       ap events_text first.events
-      ∙ ap (λ (l : List ℤ). event_text (one_event (none_left l) (0 + run) (level_at (drop place levels) run))
-      ++ events_text (events_of 0 l)) rest_is
-      ∙ ap (λ (b : Bool). event_text (one_event b (0 + run) (level_at (drop place levels) run))
+      ∙ ap (λ (l : List ℤ). event_text (one_event (none_left l) (0 + run) (level_in_list (drop place levels) run))
+      ++ events_text (coefficients_of 0 l)) rest_is
+      ∙ ap (λ (b : Bool). event_text (one_event b (0 + run) (level_in_list (drop place levels) run))
       ++ left_text 0 (place + run + 1) levels) (sym last)
-      ∙ ap (λ (n : ℕ). event_text (one_event (eqb (left / 2 ^ run / 2) 0) n (level_at (drop place levels) run))
+      ∙ ap (λ (n : ℕ). event_text (one_event (eqb (left / 2 ^ run / 2) 0) n (level_in_list (drop place levels) run))
       ++ left_text 0 (place + run + 1) levels) (omega arith)
       ∙ ap (λ (z : ℤ). event_text (one_event (eqb (left / 2 ^ run / 2) 0) run z)
       ++ left_text 0 (place + run + 1) levels) (get_or-drop place levels run (pos 0))
 
   one : Coefficient
-  one = one_event (eqb (left / 2 ^ run / 2) 0) run (level_at levels (place + run))
+  one = one_event (eqb (left / 2 ^ run / 2) 0) run (level_in_list levels (place + run))
 
   pub next : Next place run left levels
   unfolding one
@@ -186,12 +189,12 @@ module _ (place run left : ℕ) (levels : List ℤ) (long : length levels ≡ 64
 
 -- with the text of the others, all is written
 pub goes : (place run left : ℕ) (levels : List ℤ) (old new all : List Bool) → Next place run left levels
-    → new ≡ old ++ event_text (one_event (eqb (left / 2 ^ run / 2) 0) run (level_at levels (place + run)))
+    → new ≡ old ++ event_text (one_event (eqb (left / 2 ^ run / 2) 0) run (level_in_list levels (place + run)))
     → old ++ left_text 0 place levels ≡ all
     → new ++ left_text 0 (place + run + 1) levels ≡ all
 goes place run left levels old new all is wrote before =
     ap (λ (l : List Bool). l ++ left_text 0 (place + run + 1) levels) wrote
-    ∙ append_assoc old (event_text (one_event (eqb (left / 2 ^ run / 2) 0) run (level_at levels (place + run))))
+    ∙ append_assoc old (event_text (one_event (eqb (left / 2 ^ run / 2) 0) run (level_in_list levels (place + run))))
     (left_text 0 (place + run + 1) levels)
     ∙ ap (λ (l : List Bool). old ++ l) (sym is.text)
     ∙ before

@@ -4,7 +4,7 @@ use Rattle.std.specs.Prelude.{ℤ}
 use Rattle.h263_bits.specs.Syntax.{Syntax, IsProductive, done}
 use Rattle.h263_bits.proofs.SyntaxLaws.{either_productive}
 use Rattle.code_tables.specs.Laws.{TableLaws}
-use Rattle.block_layer.specs.Laws.{AreProductive}
+use Rattle.block_layer.specs.Laws.{AreBlocksProductive}
 use Rattle.block_layer.specs.Text.{Events, placed, event_turn, events, intra_dc, intra_block, inter_block, no_levels}
 use Rattle.block_layer.proofs.Turns.{turn_some}
 
@@ -45,5 +45,5 @@ pub inter_productive : TableLaws → IsProductive inter_block
 unfolding inter_block
 inter_productive tables = events_productive tables 0 no_levels
 
-pub are_productive : TableLaws → AreProductive
+pub are_productive : TableLaws → AreBlocksProductive
 are_productive tables = record { intra = intra_productive tables; inter = inter_productive tables }

@@ -5,16 +5,16 @@ use Rattle.std.specs.List.{list_all}
 use Rattle.std.proofs.lemmas.Int.{ints}
 use Rattle.std.proofs.lemmas.Bool.{cases_lt, ltb-true, lt-ltb, le-ltb, eqb-false}
 use Rattle.h263_types.specs.Blocks.{IsLevel, IsDc, IsIntraBlock, IsInterBlock}
-use Rattle.h263_bits.specs.Syntax.{Turn, again, finally, Turns, Spells, done, either}
+use Rattle.h263_bits.specs.Syntax.{LoopTurn, again, finally, Turns, Spells, done, either}
 use Rattle.h263_bits.proofs.SyntaxLaws.{stands_within}
-use Rattle.code_tables.specs.Tables.{Event, Coefficient, event, event_parts, event_table, tcoef_words, last_0_texts, last_1_texts, signed, allowed_level, level_of, after_word, size_of}
+use Rattle.code_tables.specs.Tables.{TableEvent, Coefficient, event, event_parts, event_table, tcoef_words, last_0_texts, last_1_texts, signed, allowed_level, escaped_level, after_word, size_of}
 use Rattle.block_layer.specs.Laws.{AreInRange}
 use Rattle.block_layer.specs.Text.{Events, Placed, placed, after_event, event_turn, events, allowed_dc, dc_of, intra_dc, intra_block, inter_block, no_levels}
-use Rattle.block_layer.specs.Step.{level_at}
+use Rattle.block_layer.specs.Step.{level_in_list}
 
 -- ---- an event
 
-is_small : Option Event → Bool
+is_small : Option TableEvent → Bool
 is_small None = true
 is_small (Some e) = nat_lt e.size 128
 
@@ -36,16 +36,17 @@ signed_size sign size = at (eqb sign 0)
 not_level : (n : ℕ) → allowed_level n ≡ None → n ≡ 128 → ⊥
 not_level n e is = let h : allowed_level 128 ≡ None = subst (λ (k : ℕ). allowed_level k ≡ None) is e in cc
 
-level_size : (n : ℕ) → n < 256 → allowed_level n ≡ None → size_of (level_of n) < 128
+level_size : (n : ℕ) → n < 256 → allowed_level n ≡ None → size_of (escaped_level n) < 128
 level_size n lt e = at (cases_lt n 128)
   where
-    at : (n < 128) ⊎ (128 ≤ n) → size_of (level_of n) < 128
+    at : (n < 128) ⊎ (128 ≤ n) → size_of (escaped_level n) < 128
     at (inl low) = rw (lt-ltb n 128 low) low
     at (inr high) =
         let size : size_of (neg_ℤ (pos (256 - n))) ≡ 256 - n = neg_size (256 - n) in
         rw (le-ltb n 128 high) (omega (arith, size, not_level n e))
 
-after_size : (o : Option Event) (x : Coefficient) (text : List Bool) → is_small o ≡ true → Spells (after_word o) x text
+after_size : (o : Option TableEvent) (x : Coefficient) (text : List Bool) → is_small o ≡ true
+    → Spells (after_word o) x text
     → size_of x.level < 128
 unfolding Spells is_small
 after_size (Some e) x text small h =
@@ -54,7 +55,7 @@ after_size (Some e) x text small h =
     omega (arith, size, ltb-true e.size 128 small)
 after_size None x text small h =
     let level = h.5.5 in
-    let is : size_of x.level ≡ size_of (level_of level.0) = ap (λ (c : Coefficient). size_of c.level) level.5.0 in
+    let is : size_of x.level ≡ size_of (escaped_level level.0) = ap (λ (c : Coefficient). size_of c.level) level.5.0 in
     omega (arith, is, level_size level.0 level.2 level.3)
 
 event_size : (x : Coefficient) (text : List Bool) → Spells event x text → size_of x.level < 128
@@ -73,23 +74,23 @@ is_level_of (negsuc n) lt = record { low = omega (arith, ints); high = omega (ar
 
 -- each level is as its place wants it
 abbrev AreAll : (ℕ → ℤ → Type 0) → List ℤ → Type 0
-AreAll P levels = (k : ℕ) → P k (level_at levels k)
+AreAll P levels = (k : ℕ) → P k (level_in_list levels k)
 
 set_within : (P : ℕ → ℤ → Type 0) (levels : List ℤ) (p : ℕ) (z : ℤ) → AreAll P levels → P p z
     → AreAll P (slice_set levels p z)
 set_within P [] p z all one = all
 set_within P (x ∷ levels) zero z all one = at
   where
-    at : (k : ℕ) → P k (level_at (z ∷ levels) k)
+    at : (k : ℕ) → P k (level_in_list (z ∷ levels) k)
     at zero = one
     at (suc k) = all (suc k)
 set_within P (x ∷ levels) (suc p) z all one = at (set_within (λ k. P (suc k)) levels p z (λ k. all (suc k)) one)
   where
-    at : AreAll (λ k. P (suc k)) (slice_set levels p z) → (k : ℕ) → P k (level_at (x ∷ slice_set levels p z) k)
+    at : AreAll (λ k. P (suc k)) (slice_set levels p z) → (k : ℕ) → P k (level_in_list (x ∷ slice_set levels p z) k)
     at more zero = all zero
     at more (suc k) = more k
 
-zero_at : (n k : ℕ) → level_at (replicate n (pos 0)) k ≡ pos 0
+zero_at : (n k : ℕ) → level_in_list (replicate n (pos 0)) k ≡ pos 0
 zero_at zero k = refl
 zero_at (suc n) zero = refl
 zero_at (suc n) (suc k) = zero_at n k
@@ -97,7 +98,7 @@ zero_at (suc n) (suc k) = zero_at n k
 zero_level : IsLevel (pos 0)
 zero_level = is_level_of (pos 0) (omega arith)
 
-zeros_within : (n k : ℕ) → IsLevel (level_at (replicate n (pos 0)) k)
+zeros_within : (n k : ℕ) → IsLevel (level_in_list (replicate n (pos 0)) k)
 zeros_within n k = subst (λ (z : ℤ). IsLevel z) (sym (zero_at n k)) zero_level
 
 -- a block with no level
@@ -117,7 +118,7 @@ module _ (P : ℕ → ℤ → Type 0) (from : ℕ) (behind : (k : ℕ) (z : ℤ)
       (omega arith, subst (λ (p : Placed). IsLevel p.level) (sym is) level)
 
   -- what a turn leaves is within
-  Leaves : Turn Events (List ℤ) → Type 0
+  Leaves : LoopTurn Events (List ℤ) → Type 0
   Leaves (again s) = (from ≤ s.place) × AreAll P s.levels
   Leaves (finally levels) = AreAll P levels
 
@@ -134,12 +135,12 @@ module _ (P : ℕ → ℤ → Type 0) (from : ℕ) (behind : (k : ℕ) (z : ℤ)
       at true = set
       at false = (omega arith, set)
 
-  turn_within : (s : Events) (t : Turn Events (List ℤ)) (text : List Bool) → from ≤ s.place → AreAll P s.levels
+  turn_within : (s : Events) (t : LoopTurn Events (List ℤ)) (text : List Bool) → from ≤ s.place → AreAll P s.levels
       → Spells (event_turn s) t text → Leaves t
   unfolding Spells event_turn
   turn_within s t text after all h =
       let one = placed_within s.place h.0 h.1 after h.4 in
-      subst (λ (u : Turn Events (List ℤ)). Leaves u) (sym h.6.0) (after_within s h.0 after all one.0 one.1)
+      subst (λ (u : LoopTurn Events (List ℤ)). Leaves u) (sym h.6.0) (after_within s h.0 after all one.0 one.1)
 
   turns_within : (n : ℕ) (s : Events) (out : List ℤ) (text : List Bool) → from ≤ s.place → AreAll P s.levels
       → Turns (λ t x front. Spells (event_turn t) x front) n s out text → AreAll P out
@@ -184,7 +185,7 @@ dc_within : (levels : List ℤ) (text : List Bool) → Spells intra_dc levels te
 unfolding Spells intra_dc IsPlaced
 dc_within levels text h = subst (λ (l : List ℤ). AreAll IsPlaced l) (sym h.5.0) at
   where
-    at : (k : ℕ) → IsPlaced k (level_at (slice_set no_levels 0 (dc_of h.0)) k)
+    at : (k : ℕ) → IsPlaced k (level_in_list (slice_set no_levels 0 (dc_of h.0)) k)
     at zero = is_dc_of h.0 h.2 h.3
     at (suc k) = zeros_within 63 k
 
@@ -209,7 +210,7 @@ pub intra_within : (coded : Bool) (levels : List ℤ) (text : List Bool) → Spe
 unfolding Spells intra_block IsPlaced
 intra_within coded levels text h =
     let all = either_within coded h.0 levels h.2 (dc_within h.0 h.1 h.4) h.6 in
-    record { dc = all 0; levels = λ k after lt. placed_level k (level_at levels k) after (all k) }
+    record { dc = all 0; levels = λ k after lt. placed_level k (level_in_list levels k) after (all k) }
 
 pub are_in_range : AreInRange
 are_in_range = record { intra = intra_within; inter = inter_within }

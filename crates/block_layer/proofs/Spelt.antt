@@ -13,9 +13,9 @@ use Rattle.h263_bits.specs.Syntax.{Spells, any, done, either, repeat}
 use Rattle.h263_bits.proofs.SyntaxLaws.{spells_field, spells_part, spells_done, spells_whole}
 use Rattle.code_tables.specs.Laws.{TableLaws}
 use Rattle.code_tables.specs.Tables.{size_of}
-use Rattle.block_layer.specs.Laws.{AreSpelt, IsEmpty}
+use Rattle.block_layer.specs.Laws.{AreBlocksSpelt, IsEmptyBlock}
 use Rattle.block_layer.specs.Text.{events, event_turn, allowed_dc, dc_of, dc_code, intra_dc, intra_block, inter_block, no_levels, none_left, is_coded, levels_text, coded_text, intra_text, inter_text}
-use Rattle.block_layer.specs.Step.{level_at}
+use Rattle.block_layer.specs.Step.{level_in_list}
 use Rattle.block_layer.proofs.Written.{events_spelt, IsWritten, all_zeros}
 use Rattle.block_layer.proofs.Turns.{at_place}
 use Rattle.block_layer.proofs.Steps.{none_inter}
@@ -26,18 +26,18 @@ pub size_is : (z : ℤ) → IsLevel z → size_of z < 128
 size_is (pos n) is = omega (arith, ints, is.low, is.high)
 size_is (negsuc n) is = omega (arith, ints, is.low, is.high)
 
-past : (levels : List ℤ) (k : ℕ) → length levels ≤ k → level_at levels k ≡ pos 0
+past : (levels : List ℤ) (k : ℕ) → length levels ≤ k → level_in_list levels k ≡ pos 0
 past [] k le = refl
 past (z ∷ levels) zero le = absurd (omega arith)
 past (z ∷ levels) (suc k) le = past levels k (omega arith)
 
 -- levels that are in range up to the end can be written
-all_written : (levels : List ℤ) → ((k : ℕ) → k < length levels → IsLevel (level_at levels k)) → (k : ℕ)
-    → IsWritten (level_at levels k)
+all_written : (levels : List ℤ) → ((k : ℕ) → k < length levels → IsLevel (level_in_list levels k)) → (k : ℕ)
+    → IsWritten (level_in_list levels k)
 all_written levels each k = at (cases_lt k (length levels))
   where
-    at : (k < length levels) ⊎ (length levels ≤ k) → IsWritten (level_at levels k)
-    at (inl inside) = size_is (level_at levels k) (each k inside)
+    at : (k < length levels) ⊎ (length levels ≤ k) → IsWritten (level_in_list levels k)
+    at (inl inside) = size_is (level_in_list levels k) (each k inside)
     at (inr outside) = rw (past levels k outside) (omega arith)
 
 -- ---- INTRADC
@@ -78,7 +78,7 @@ dc_spelt z is =
 -- ---- whole blocks
 
 events_after : TableLaws → (z : ℤ) (rest : List ℤ) → length rest ≡ 63 → none_left rest ≡ false
-    → ((k : ℕ) → IsWritten (level_at rest k)) → Spells (events 1 (alone z)) (z ∷ rest) (levels_text 1 (z ∷ rest))
+    → ((k : ℕ) → IsWritten (level_in_list rest k)) → Spells (events 1 (alone z)) (z ∷ rest) (levels_text 1 (z ∷ rest))
 unfolding events levels_text alone
 events_after tables z rest long some range =
     subst (λ (n : ℕ). Spells (repeat (at_place 1 (z ∷ replicate n (pos 0))) event_turn) (z ∷ rest)
@@ -90,7 +90,7 @@ unfolding alone
 nothing_after z rest long none = ap (λ (l : List ℤ). z ∷ l) (all_zeros rest none
     ∙ ap (λ (n : ℕ). replicate n (pos 0)) long)
 
-after_spelt : TableLaws → (z : ℤ) (rest : List ℤ) → length rest ≡ 63 → ((k : ℕ) → IsWritten (level_at rest k))
+after_spelt : TableLaws → (z : ℤ) (rest : List ℤ) → length rest ≡ 63 → ((k : ℕ) → IsWritten (level_in_list rest k))
     → Spells (either (is_coded (z ∷ rest)) (events 1 (alone z)) (done (alone z))) (z ∷ rest) (coded_text (z ∷ rest))
 after_spelt tables z rest long range = at (none_left rest) refl
   where
@@ -101,7 +101,8 @@ after_spelt tables z rest long range = at (none_left rest) refl
         subst (λ (l : List ℤ). Spells (done l) (z ∷ rest) []) same (spells_done (z ∷ rest))
     at false some = events_after tables z rest long some range
 
-intra_at : TableLaws → (z : ℤ) (rest : List ℤ) → length rest ≡ 63 → IsDc z → ((k : ℕ) → IsWritten (level_at rest k))
+intra_at : TableLaws → (z : ℤ) (rest : List ℤ) → length rest ≡ 63 → IsDc z
+    → ((k : ℕ) → IsWritten (level_in_list rest k))
     → Spells (intra_block (is_coded (z ∷ rest))) (z ∷ rest) (intra_text (z ∷ rest))
 unfolding intra_block intra_text
 intra_at tables z rest long dc range =
@@ -113,8 +114,8 @@ pub intra_written : TableLaws → (b : Block) → length b.levels ≡ 64 → IsI
     → Spells (intra_block (is_coded b.levels)) b.levels (intra_text b.levels)
 intra_written tables b long is = at b.levels long is.dc is.levels
   where
-    at : (levels : List ℤ) → length levels ≡ 64 → IsDc (level_at levels 0)
-        → ((k : ℕ) → 1 ≤ k → k < 64 → IsLevel (level_at levels k))
+    at : (levels : List ℤ) → length levels ≡ 64 → IsDc (level_in_list levels 0)
+        → ((k : ℕ) → 1 ≤ k → k < 64 → IsLevel (level_in_list levels k))
         → Spells (intra_block (is_coded levels)) levels (intra_text levels)
     at [] long dc each = absurd (omega arith)
     at (z ∷ rest) long dc each = intra_at tables z rest (omega arith) dc
@@ -130,12 +131,12 @@ inter_written tables b long is some =
     (all_written b.levels (λ k lt. is.levels k (omega arith))))
 
 -- the text that is written of a block is one of its texts
-pub are_spelt : TableLaws → AreSpelt
+pub are_spelt : TableLaws → AreBlocksSpelt
 are_spelt tables = record { intra = intra_written tables; inter = inter_written tables }
 
 -- ---- a block whose levels are all 0
 
-pub is_empty : IsEmpty
+pub is_empty : IsEmptyBlock
 is_empty = record {
   in_range = no_levels_within;
   levels = λ levels long none. all_zeros levels none ∙ ap (λ (n : ℕ). replicate n (pos 0)) long;

@@ -5,12 +5,12 @@ use Rattle.std.proofs.lemmas.List.{append-nil}
 use Rattle.block_layer.proofs.Written.{no_events}
 use Rattle.h263_bits.specs.Bits.{spelled}
 use Rattle.h263_bits.proofs.SyntaxLaws.{length-spelled}
-use Rattle.block_layer.specs.Text.{none_left, events_of, events_text, levels_text, coded_text, dc_code, intra_text, inter_text}
-use Rattle.block_layer.specs.Step.{level_at}
+use Rattle.block_layer.specs.Text.{none_left, coefficients_of, events_text, levels_text, coded_text, dc_code, intra_text, inter_text}
+use Rattle.block_layer.specs.Step.{level_in_list}
 
 -- the text of what is left, after a run of zeros
 abbrev pub left_text : ℕ → ℕ → List ℤ → List Bool
-left_text run place levels = events_text (events_of run (drop place levels))
+left_text run place levels = events_text (coefficients_of run (drop place levels))
 
 pub none_text : (run place : ℕ) (levels : List ℤ) → none_left (drop place levels) ≡ true → left_text run place levels
     ≡ []
@@ -36,16 +36,16 @@ coded_is levels = at (none_left (drop 1 levels)) refl
     at false some = refl
 
 -- after INTRADC
-pub intra_is : (levels : List ℤ) (dc : ℕ) → dc ≡ dc_code (level_at levels 0) → spelled 8 dc ++ levels_text 1 levels
+pub intra_is : (levels : List ℤ) (dc : ℕ) → dc ≡ dc_code (level_in_list levels 0) → spelled 8 dc ++ levels_text 1 levels
     ≡ intra_text levels
 unfolding intra_text
 intra_is levels dc is = ap (λ (n : ℕ). spelled 8 n ++ levels_text 1 levels) is
-    ∙ ap (λ (l : List Bool). spelled 8 (dc_code (level_at levels 0)) ++ l) (sym (coded_is levels))
+    ∙ ap (λ (l : List Bool). spelled 8 (dc_code (level_in_list levels 0)) ++ l) (sym (coded_is levels))
 
 -- an intra block's text is eight bits of INTRADC and the events
 pub intra_length : (levels : List ℤ) → length (intra_text levels) ≡ 8 + length (coded_text levels)
 unfolding intra_text
-intra_length levels = let dc = dc_code (level_at levels 0) in length-append (spelled 8 dc) (coded_text levels)
+intra_length levels = let dc = dc_code (level_in_list levels 0) in length-append (spelled 8 dc) (coded_text levels)
     ∙ ap (λ (n : ℕ). n + length (coded_text levels)) (length-spelled 8 dc)
 
 -- nothing is written of a block with no level

@@ -9,7 +9,7 @@ use Rattle.h263_bits.specs.Syntax.{any, again, finally, repeat, Spells}
 use Rattle.h263_bits.proofs.SyntaxLaws.{and_both, spells_done, spells_part, spells_last, spells_turn, spells_whole}
 use Rattle.code_tables.specs.Tables.{Coefficient, event, event_text, size_of}
 use Rattle.code_tables.specs.Laws.{TableLaws}
-use Rattle.block_layer.specs.Text.{placed, allowed_place, event_turn, after_event, none_left, events_of, events_text}
+use Rattle.block_layer.specs.Text.{placed, allowed_place, event_turn, after_event, none_left, coefficients_of, events_text}
 use Rattle.block_layer.proofs.Turns.{at_place, next}
 
 pub true_not_false : true ≡ false → ⊥
@@ -76,14 +76,14 @@ length_moves : (front zs : List ℤ) (z : ℤ) → length front + length (z ∷ 
 length_moves front zs z long = omega (arith, length-append front (z ∷ []))
 
 -- where no level is left there are no events
-pub no_events : (run : ℕ) (zs : List ℤ) → none_left zs ≡ true → events_of run zs ≡ []
-unfolding events_of
+pub no_events : (run : ℕ) (zs : List ℤ) → none_left zs ≡ true → coefficients_of run zs ≡ []
+unfolding coefficients_of
 no_events run [] none = refl
 no_events run (z ∷ zs) none =
     let both = and_both (is_zero z) (none_left zs) none in
     rw both.0 (no_events (run + 1) zs both.1)
 
-no_text : (zs : List ℤ) → none_left zs ≡ true → events_text (events_of 0 zs) ≡ []
+no_text : (zs : List ℤ) → none_left zs ≡ true → events_text (coefficients_of 0 zs) ≡ []
 unfolding events_text
 no_text zs none = rw (no_events 0 zs none) refl
 
@@ -106,8 +106,8 @@ goes p k z levels after whole text rest is h more =
 pub events_spelt : TableLaws → (front rest : List ℤ) (p r : ℕ) → p + r ≡ length front → length front + length rest ≡ 64
     → none_left rest ≡ false → ((k : ℕ) → IsWritten (get_or rest k (pos 0)))
     → Spells (repeat (at_place p (front ++ zeros (length rest))) event_turn) (front
-    ++ rest) (events_text (events_of r rest))
-unfolding events_of events_text
+    ++ rest) (events_text (coefficients_of r rest))
+unfolding coefficients_of events_text
 events_spelt tables front [] p r e long some range = absurd cc
 events_spelt tables front (z ∷ zs) p r e long some range =
     step (λ p' r' e' some'. events_spelt tables (front ++ z ∷ []) zs p' r' e' (length_moves front zs z long) some'
@@ -118,22 +118,22 @@ events_spelt tables front (z ∷ zs) p r e long some range =
 
     step : ((p r : ℕ) → p + r ≡ length (front ++ z ∷ []) → none_left zs ≡ false
         → Spells (repeat (at_place p ((front ++ z ∷ []) ++ zeros (length zs))) event_turn) ((front ++ z ∷ [])
-        ++ zs) (events_text (events_of r zs)))
+        ++ zs) (events_text (coefficients_of r zs)))
         → (t : Bool) → is_zero z ≡ t
-        → Spelt (events_text (cond t (events_of (r + 1) zs) (record {
+        → Spelt (events_text (cond t (coefficients_of (r + 1) zs) (record {
           last = none_left zs;
           run = r;
           level = z;
-        } ∷ events_of 0 zs)))
+        } ∷ coefficients_of 0 zs)))
     step more true t =
         let some' : none_left zs ≡ false = rw t at some in
         let h0 = more p (r + 1) (one_longer front z p r e) some' in
         let h1 = subst (λ (l : List ℤ). Spells (repeat (at_place p l) event_turn) ((front ++ z ∷ [])
-        ++ zs) (events_text (events_of (r + 1) zs))) (append_assoc front (z ∷ []) (zeros (length zs))) h0 in
+        ++ zs) (events_text (coefficients_of (r + 1) zs))) (append_assoc front (z ∷ []) (zeros (length zs))) h0 in
         let h2 = subst (λ (l : List ℤ). Spells (repeat (at_place p (front ++ (z ∷ zeros (length zs)))) event_turn) l
-        (events_text (events_of (r + 1) zs))) (append_assoc front (z ∷ []) zs) h1 in
+        (events_text (coefficients_of (r + 1) zs))) (append_assoc front (z ∷ []) zs) h1 in
         subst (λ (x : ℤ). Spells (repeat (at_place p (front ++ (x ∷ zeros (length zs)))) event_turn) (front ++ (z ∷ zs))
-        (events_text (events_of (r + 1) zs))) (zero_is z t) h2
+        (events_text (coefficients_of (r + 1) zs))) (zero_is z t) h2
     step more false t = at (none_left zs) refl (event_at tables p r (length front) z (none_left zs) (front
         ++ (pos 0 ∷ zeros (length zs))) e (omega arith) t (range 0))
       where
@@ -145,7 +145,7 @@ events_spelt tables front (z ∷ zs) p r e long some range =
 
         at : (last : Bool) → none_left zs ≡ last
             → Spells (event_turn (at_place p levels)) (after_event levels (next (length front) z last))
-            (event_text (one last)) → Spelt (event_text (one last) ++ events_text (events_of 0 zs))
+            (event_text (one last)) → Spelt (event_text (one last) ++ events_text (coefficients_of 0 zs))
         at true is h =
             let zero : zs ≡ zeros (length zs) = all_zeros zs is in
             let set : slice_set levels (length front) z ≡ front ++ (z ∷ zs) = set_here front (zeros (length zs)) z
@@ -157,11 +157,12 @@ events_spelt tables front (z ∷ zs) p r e long some range =
         at false is h =
             let h0 = more (length front + 1) 0 (omega (arith, length-append front (z ∷ []))) is in
             let h1 = subst (λ (l : List ℤ). Spells (repeat (at_place (length front + 1) l) event_turn)
-            ((front ++ z ∷ []) ++ zs) (events_text (events_of 0 zs)))
+            ((front ++ z ∷ []) ++ zs) (events_text (coefficients_of 0 zs)))
             (append_assoc front (z ∷ []) (zeros (length zs))) h0 in
             let h2 = subst (λ (l : List ℤ). Spells
             (repeat (at_place (length front + 1) (front ++ (z ∷ zeros (length zs)))) event_turn) l
-            (events_text (events_of 0 zs))) (append_assoc front (z ∷ []) zs) h1 in
+            (events_text (coefficients_of 0 zs))) (append_assoc front (z ∷ []) zs) h1 in
             goes p (length front) z levels (front ++ (z ∷ zeros (length zs))) (front ++ (z ∷ zs))
-            (event_text (one false)) (events_text (events_of 0 zs)) (set_here front (zeros (length zs)) z (pos 0)) h
+            (event_text (one false)) (events_text (coefficients_of 0 zs)) (set_here front (zeros (length zs)) z (pos 0))
+            h
             h2

@@ -6,12 +6,12 @@ use Rattle.h263_bits.specs.Syntax.{IsProductive}
 use Rattle.block_layer.specs.Text.{intra_block, inter_block, no_levels, none_left, is_coded, intra_text, inter_text, IsIntraText, IsInterText}
 
 -- each event of a block takes a bit at least
-pub record AreProductive : Type 0 where
+pub record AreBlocksProductive : Type 0 where
   pub intra : (coded : Bool) → IsProductive (intra_block coded)
   pub inter : IsProductive inter_block
 
 -- what is written is spelled
-pub record AreSpelt : Type 0 where
+pub record AreBlocksSpelt : Type 0 where
   pub intra : (b : Block) → length b.levels ≡ 64 → IsIntraBlock b
       → IsIntraText (is_coded b.levels) b.levels (intra_text b.levels)
   pub inter : (b : Block) → length b.levels ≡ 64 → IsInterBlock b → none_left b.levels ≡ false
@@ -25,19 +25,19 @@ pub record AreInRange : Type 0 where
       → IsInterBlock (record { levels = levels })
 
 -- a block whose levels are all 0, and what is written of it
-pub record IsEmpty : Type 0 where
+pub record IsEmptyBlock : Type 0 where
   pub in_range : IsInterBlock (record { levels = no_levels })
   pub levels : (levels : List ℤ) → length levels ≡ 64 → none_left levels ≡ true → levels ≡ no_levels
   pub text : (levels : List ℤ) → none_left levels ≡ true → inter_text levels ≡ []
 
 -- no text is longer: an event has 22 bits at most, as an escape
-pub record AreShort : Type 0 where
+pub record AreBlocksShort : Type 0 where
   pub intra : (levels : List ℤ) → length levels ≡ 64 → length (intra_text levels) ≤ 8 + 63 * 22
   pub inter : (levels : List ℤ) → length levels ≡ 64 → length (inter_text levels) ≤ 64 * 22
 
 pub record BlockLaws : Type 0 where
-  pub productive : AreProductive
-  pub spelt : AreSpelt
+  pub productive : AreBlocksProductive
+  pub spelt : AreBlocksSpelt
   pub in_range : AreInRange
-  pub empty : IsEmpty
-  pub short : AreShort
+  pub empty : IsEmptyBlock
+  pub short : AreBlocksShort

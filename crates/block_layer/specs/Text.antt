@@ -7,7 +7,7 @@ use Rattle.h263_bits.specs.Bits.{spelled}
 use Rattle.h263_bits.specs.declared.fault.Fault.{Fault}
 use Rattle.h263_bits.specs.declared.fault.FaultKind.TheVariants as faults
 use Rattle.h263_bits.specs.Reading.{Bits, first_fault}
-use Rattle.h263_bits.specs.Syntax.{Syntax, Allowed, Turn, again, finally, any, done, field, part, repeat, either, Spells, reading}
+use Rattle.h263_bits.specs.Syntax.{Syntax, Allowed, LoopTurn, again, finally, any, done, field, part, repeat, either, Spells, reading}
 use Rattle.code_tables.specs.Tables.{Coefficient, event, event_text}
 
 -- where the next event's run starts, and the levels so far
@@ -29,12 +29,12 @@ unfoldable pub placed : ℕ → Syntax Placed
 placed place = part event (allowed_place place)
     λ e. done (record { place = place + e.run; level = e.level; last = e.last })
 
-abbrev pub after_event : List ℤ → Placed → Turn Events (List ℤ)
+abbrev pub after_event : List ℤ → Placed → LoopTurn Events (List ℤ)
 after_event levels p =
     if p.last then finally (slice_set levels p.place p.level)
     else again (record { place = p.place + 1; levels = slice_set levels p.place p.level })
 
-unfoldable pub event_turn : Events → Syntax (Turn Events (List ℤ))
+unfoldable pub event_turn : Events → Syntax (LoopTurn Events (List ℤ))
 event_turn s = part (placed s.place) any λ p. done (after_event s.levels p)
 
 -- events from a place on, up to the one with LAST 1
@@ -90,10 +90,10 @@ none_left zs = list_all is_zero zs
 
 -- the events of levels in scan order, after a run of zeros: one for each level that is not 0, with
 -- LAST 1 in the last alone
-unfoldable pub events_of : ℕ → List ℤ → List Coefficient
-events_of run [] = []
-events_of run (z ∷ zs) = if is_zero z then events_of (run + 1) zs
-    else (record { last = none_left zs; run = run; level = z } ∷ events_of 0 zs)
+unfoldable pub coefficients_of : ℕ → List ℤ → List Coefficient
+coefficients_of run [] = []
+coefficients_of run (z ∷ zs) = if is_zero z then coefficients_of (run + 1) zs
+    else (record { last = none_left zs; run = run; level = z } ∷ coefficients_of 0 zs)
 
 -- the texts of events one after the other
 unfoldable pub events_text : List Coefficient → List Bool
@@ -109,12 +109,12 @@ abbrev pub is_coded : List ℤ → Bool
 is_coded levels = not (none_left (drop 1 levels))
 
 -- whether a block of an intra or of an inter macroblock is coded
-abbrev pub coded_in : Bool → List ℤ → Bool
-coded_in intra levels = if intra then is_coded levels else not (none_left levels)
+abbrev pub is_block_coded : Bool → List ℤ → Bool
+is_block_coded intra levels = if intra then is_coded levels else not (none_left levels)
 
 -- the events of a block's levels from a place on
 unfoldable pub levels_text : ℕ → List ℤ → List Bool
-levels_text from levels = events_text (events_of 0 (drop from levels))
+levels_text from levels = events_text (coefficients_of 0 (drop from levels))
 
 -- the events after INTRADC, where there are any
 abbrev pub coded_text : List ℤ → List Bool

@@ -2,7 +2,7 @@
 ghost use Rattle.std.specs.Prelude.{◌≡◌, ℤ, ◌++◌, List, Bool};
 ghost use Rattle.block_layer.specs.Text.{IsIntraText, IsInterText};
 ghost use Rattle.block_layer.specs.Faults.{BlockFaults};
-ghost use Rattle.block_layer.specs.Laws.{AreSpelt, AreShort, BlockLaws};
+ghost use Rattle.block_layer.specs.Laws.{AreBlocksSpelt, AreBlocksShort, BlockLaws};
 
 /// Of two texts of which one begins the other both are the same, and spell the same levels.
 pub fn one_reading()
@@ -16,7 +16,7 @@ pub fn one_reading()
 
 /// What is written of a block is a text of it.
 pub fn written_is_text()
-    ensures { AreSpelt }
+    ensures { AreBlocksSpelt }
 {
     code_tables::laws::in_a_syntax();
 }
@@ -31,7 +31,7 @@ pub fn first_faults()
 
 /// How long a block's text is at most.
 pub fn longest_text()
-    ensures { AreShort }
+    ensures { AreBlocksShort }
 {}
 
 /// What a syntax that has blocks in it needs to know of them.

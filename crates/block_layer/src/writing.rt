@@ -6,8 +6,8 @@ ghost use Rattle.h263_types.specs.Blocks.{IsIntraBlock, IsInterBlock};
 ghost use Rattle.h263_types.specs.Marks.{marks_of};
 ghost use Rattle.code_tables.specs.Events.{coefficient_of};
 ghost use Rattle.code_tables.specs.Tables.{size_of};
-ghost use Rattle.block_layer.specs.Text.{none_left, events_of, events_text, dc_code, is_coded, coded_in, levels_text, coded_text, intra_text, inter_text, IsIntraText, IsInterText};
-ghost use Rattle.block_layer.specs.Step.{AreWritten, level_at, one_event};
+ghost use Rattle.block_layer.specs.Text.{none_left, coefficients_of, events_text, dc_code, is_coded, is_block_coded, levels_text, coded_text, intra_text, inter_text, IsIntraText, IsInterText};
+ghost use Rattle.block_layer.specs.Step.{AreWritten, level_in_list, one_event};
 ghost use Rattle.block_layer.specs.Waiting.{DoWait, waiting_text};
 
 use code_tables::{Coefficient, event_number, laws as code_tables_laws};
@@ -17,8 +17,8 @@ use h263_types::Block;
 // The event of a level that isn't 0.
 fn event_at(block: &Block, place: usize, run: u8, last: bool) -> Coefficient
     requires place { place < 64 }
-    requires size { size_of (level_at block.now.levels place) < 128 }
-    ensures { coefficient_of result ≡ one_event last run (level_at block.now.levels place) }
+    requires size { size_of (level_in_list block.now.levels place) < 128 }
+    ensures { coefficient_of result ≡ one_event last run (level_in_list block.now.levels place) }
 {
     Coefficient {
         last,
@@ -31,7 +31,7 @@ fn event_at(block: &Block, place: usize, run: u8, last: bool) -> Coefficient
 /// in an intra macroblock another one than INTRADC.
 #[inline(always)]
 pub fn is_coded_by(intra: bool, marks: u64) -> bool
-    ensures { (levels : List ℤ) → marks ≡ marks_of levels → result ≡ coded_in intra levels }
+    ensures { (levels : List ℤ) → marks ≡ marks_of levels → result ≡ is_block_coded intra levels }
 {
     if intra { marks >> 1 != 0 } else { marks != 0 }
 }
@@ -103,7 +103,7 @@ fn write_levels(writer: &mut BitWriter<'_>, before: Waiting, block: &Block, mark
 // INTRADC as it is written: 255 for 128.
 fn dc_bits(block: &Block) -> u32
     requires { IsIntraBlock block.now }
-    ensures code { result ≡ dc_code (level_at block.now.levels 0) }
+    ensures code { result ≡ dc_code (level_in_list block.now.levels 0) }
     ensures below { result < 256 }
 {
     if block.levels[0] == 128 {

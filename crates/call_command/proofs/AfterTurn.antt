@@ -38,7 +38,7 @@ use Rattle.one_way.specs.Refused.{IsAllowed, refusal_after}
 use Rattle.one_way.specs.Seen.{in_both}
 use Rattle.call_command.specs.declared.link.Link.{Link}
 use Rattle.call_command.specs.declared.world.World.{World}
-use Rattle.call_command.specs.Call.{CallState, after_line, by_ends, capture_step, event_step, line_size, line_turn, may_read, play_texts, refusal_at, unless_refused, with_frame, with_message, with_packet, with_packets, with_play}
+use Rattle.call_command.specs.Call.{CallState, after_line, by_ends, capture_step, event_step, line_size, line_turn, may_read, play_texts, refusal_at, unless_refused, with_frame, with_message, with_packet_delivered, with_packets, with_next_play}
 use Rattle.call_command.specs.Refused.{IsNotRefused, IsRefusedWith, fault_on_line, fault_told}
 use Rattle.call_command.specs.Standing.{HasDone, HasTaken, CallParts, PartsReady, PartsStand, StoodBefore, more_of, call_parts, call_state_of}
 use Rattle.call_command.specs.Turning.{IsAsked, IsChecked, IsRead, TakesFrame, TakesLine, names_of}
@@ -138,7 +138,7 @@ module _ (x : CallParts) (s : CallState) (inputs : Role → List ℕ) (k : Stood
 
   pub packet_is : (n j : ℕ) → refusal_after p s.before s.frames s.past (Deliver n j) ≡ None
       → event_step by_ends s inputs trace (says.Packet n j)
-      ≡ Goes (after_line (with_packet s n j) trace) (line_turn trace no_texts)
+      ≡ Goes (after_line (with_packet_delivered s n j) trace) (line_turn trace no_texts)
   packet_is n j none = step_is (Deliver n j) _ none
 
   pub packets_is : (n : ℕ) → refusal_after p s.before s.frames s.past (Deliver n 0) ≡ None
@@ -258,7 +258,7 @@ module _ (x : CallParts) (s : CallState) (inputs : Role → List ℕ) (k : Stood
   abbrev texts_at : Params → ℕ → Role → List ℕ
   texts_at q n = play_texts (in_both (both_after q (steady q) s.frames s.before (Play ∷ s.past))) n
 
-  texts_are : WayLaws p → texts_at p x.receiver.played ≡ play_texts (by_ends (with_play s)) (by_ends s).played
+  texts_are : WayLaws p → texts_at p x.receiver.played ≡ play_texts (by_ends (with_next_play s)) (by_ends s).played
   texts_are laws =
       ap (texts_at p) (laws.played x.sender x.receiver s.before s.frames s.past done_here.way_holds.joined)
       ∙ sym (ap (λ (q : Params). texts_at q (both_after q (steady q) s.frames s.before s.past).receiver.played)
@@ -267,18 +267,18 @@ module _ (x : CallParts) (s : CallState) (inputs : Role → List ℕ) (k : Stood
   module _ (laws : WayLaws p) (before old new : Outside) (taken : HasTaken inputs before old) (still : new.left
       ≡ old.left) (none : refusal_after p s.before s.frames s.past Play ≡ None) where
     abbrev shown : Role → List ℕ
-    shown = play_texts (by_ends (with_play s)) (by_ends s).played
+    shown = play_texts (by_ends (with_next_play s)) (by_ends s).played
 
     play_is : event_step by_ends s inputs trace says.Play
-        ≡ Goes (after_line (with_play s) trace) (line_turn trace shown)
-    play_is = step_is Play (Goes (after_line (with_play s) trace) (line_turn trace shown)) none
+        ≡ Goes (after_line (with_next_play s) trace) (line_turn trace shown)
+    play_is = step_is Play (Goes (after_line (with_next_play s) trace) (line_turn trace shown)) none
 
     pub play_goes : (stands : CallState → (Role → List ℕ) → Type 0)
-        → stands (after_line (with_play s) trace) (left_after inputs taken_line)
+        → stands (after_line (with_next_play s) trace) (left_after inputs taken_line)
         → Gains (texts_at p x.receiver.played) old.written new.written
         → Went (event_step by_ends s inputs trace says.Play) stands may_read true inputs before new
     play_goes stands kept gains =
-        line_goes s inputs before old taken (with_play s) shown _ stands play_is kept new still
+        line_goes s inputs before old taken (with_next_play s) shown _ stands play_is kept new still
         (subst (λ (t : Role → List ℕ). Gains t old.written new.written) (texts_are laws) gains)
 
     pub play_cut : GainsFronts (texts_at p x.receiver.played) old.written new.written

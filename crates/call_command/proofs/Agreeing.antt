@@ -19,7 +19,7 @@ use Rattle.one_way.specs.Trace.{delivered}
 use Rattle.call_model.specs.IdealCall.{Event, Send, Deliver, Play, Back, slices_at}
 use Rattle.call_decoding.specs.Rules.{rules_of}
 use Rattle.one_way.specs.Both.{bare}
-use Rattle.call_command.specs.Call.{CallState, after_line, all_played, bad_line, by_call, by_ends, capture_step, event_step, frame_step, line_step, line_turn, play_texts, refusal_at, trace_step, unless_refused, video_step, with_frame, with_message, with_packet, with_whole_frame, with_play}
+use Rattle.call_command.specs.Call.{CallState, after_line, all_played, bad_line, by_call, by_ends, capture_step, event_step, frame_step, line_step, line_turn, play_texts, refusal_at, trace_step, unless_refused, video_step, with_frame, with_message, with_packet_delivered, with_whole_frame, with_next_play}
 use Rattle.one_way.specs.Seen.{Seen}
 
 abbrev goes : CallState → Turn → Step CallState
@@ -43,7 +43,7 @@ refused_by s e seen = first_refusal (rules_of s.params) (length seen.coded + 1) 
     seen.abouts e
 
 event_agrees : (s : CallState) (inputs : Role → List ℕ) (trace : List ℕ) (line : Line) → Same s
-    → (refusal_at by_ends s Play ≡ None → Same (with_play s))
+    → (refusal_at by_ends s Play ≡ None → Same (with_next_play s))
     → event_step by_ends s inputs trace line ≡ event_step by_call s inputs trace line
 event_agrees s inputs trace says.Nothing same played = refl
 event_agrees s inputs trace says.Send same played =
@@ -51,7 +51,7 @@ event_agrees s inputs trace says.Send same played =
     (inputs Video))) same
 event_agrees s inputs trace (says.Packet n j) same played =
     ap (λ (seen : Seen). unless_refused (s.lines + 1) trace (Deliver n j) (refused_by s (Deliver n j) seen)
-    (goes (after_line (with_packet s n j) trace) (line_turn trace no_texts))) same
+    (goes (after_line (with_packet_delivered s n j) trace) (line_turn trace no_texts))) same
 event_agrees s inputs trace (says.All n) same played =
     ap (λ (seen : Seen). unless_refused (s.lines + 1) trace (Deliver n 0) (refused_by s (Deliver n 0) seen)
     (goes (after_line (record s { past = delivered n (length (slices_at seen.coded n)) ++ s.past }) trace)
@@ -61,19 +61,21 @@ event_agrees s inputs trace (says.Back k) same played =
     (goes (after_line (with_message s k) trace) (line_turn trace no_texts))) same
 event_agrees s inputs trace says.Play same played =
     unless_same s trace Play (refusal_at by_ends s Play) _ _
-    (λ none. λ i. goes (after_line (with_play s) trace) (line_turn trace (play_texts (played none i) (same i).played)))
+    (λ none. λ i. goes (after_line (with_next_play s) trace)
+    (line_turn trace (play_texts (played none i) (same i).played)))
     ∙ ap (λ (seen : Seen). unless_refused (s.lines + 1) trace Play (refused_by s Play seen)
-    (goes (after_line (with_play s) trace) (line_turn trace (play_texts (by_call (with_play s)) (by_call s).played))))
+    (goes (after_line (with_next_play s) trace)
+    (line_turn trace (play_texts (by_call (with_next_play s)) (by_call s).played))))
     same
 
 line_agrees : (s : CallState) (inputs : Role → List ℕ) (trace : List ℕ) (o : Option Line) → Same s
-    → (refusal_at by_ends s Play ≡ None → Same (with_play s))
+    → (refusal_at by_ends s Play ≡ None → Same (with_next_play s))
     → line_step by_ends s inputs trace o ≡ line_step by_call s inputs trace o
 line_agrees s inputs trace None same played = refl
 line_agrees s inputs trace (Some line) same played = event_agrees s inputs trace line same played
 
 pub trace_agrees : (s : CallState) (inputs : Role → List ℕ) (trace : List ℕ) → Same s
-    → (refusal_at by_ends s Play ≡ None → Same (with_play s))
+    → (refusal_at by_ends s Play ≡ None → Same (with_next_play s))
     → trace_step by_ends s inputs trace ≡ trace_step by_call s inputs trace
 trace_agrees s inputs [] same played = ap (λ (seen : Seen). ends (all_played seen)) same
 trace_agrees s inputs (b ∷ trace) same played =
@@ -89,7 +91,7 @@ frame_agrees s video (Ok planes) same =
     let size = frame_size s.params.format video in
     let n = length s.frames in
     let passed : Seen → CallState =
-    λ seen. with_play (record sent { past = delivered n (length (slices_at seen.coded n)) ++ sent.past }) in
+    λ seen. with_next_play (record sent { past = delivered n (length (slices_at seen.coded n)) ++ sent.past }) in
     let step : CallState → Seen → Step CallState = λ next seen.
     goes (record next { at = s.at + size; more = s.more - 1 }) (record {
       taken = of Video size;

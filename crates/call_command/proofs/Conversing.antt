@@ -8,7 +8,7 @@ use Rattle.call_report.specs.Status.Phase.{finished, refused, unread, unwritten,
 use Rattle.call_model.specs.Receiving.{ReceiverEntry}
 use Rattle.desk_program.specs.Ends.{AfterAll, OnceSettled, Tells}
 use Rattle.desk_program.specs.Laws.{TurnLaws}
-use Rattle.desk_program.specs.Run.{Run, end_state, run_of}
+use Rattle.desk_program.specs.Run.{Run, end_state, machine_run}
 use Rattle.desk_program.specs.UnderWay.{EndsIn, IsUnderWay, LeftIn}
 use Rattle.h263_types.specs.declared.params.Params.{Params}
 use Rattle.one_way.specs.Both.{State}
@@ -43,7 +43,7 @@ parts_with begun link =
 -- its parts stand
 pub lent_first : (x : CallParts) (before : List ReceiverEntry) (inputs : Role → List ℕ) → WayLaws x.terms.params
     → IsFreshLink x.terms x.link
-    → x.sender.params ≡ x.terms.params → sender_end.Stands (steady x.terms.params) x.sender [] → x.sender.sent ≡ 0
+    → x.sender.params ≡ x.terms.params → sender_end.PacedStands (steady x.terms.params) x.sender [] → x.sender.sent ≡ 0
     → x.video.more ≡ 1048576 → x.receiver.params ≡ x.terms.params → x.receiver.played ≡ 0
     → receiver_end.Stands x.receiver before
     → PartsStand x (call_at_start x.terms before x.video.at) inputs
@@ -67,9 +67,9 @@ pub alone_under_way : (x : CallParts) → x.link.trace.lines ≡ 0 → x.video.m
     → IsUnderWay talk_step may_read run inputs start (PartsStand x) (more_of x) now
 alone_under_way x lines more kept talk run inputs start now u =
     let most = most_turns x.terms.plain in
-    let same : run_of talk_step (more_of x) u.state u.rest ≡ run_of call_step most u.state u.rest =
-    ap (λ (n : ℕ). run_of talk_step n u.state u.rest) (most_is x lines more)
-    ∙ subst (λ (s : CallState). run_of talk_step most s u.rest ≡ run_of call_step most s u.rest) (sym u.kept)
+    let same : machine_run talk_step (more_of x) u.state u.rest ≡ machine_run call_step most u.state u.rest =
+    ap (λ (n : ℕ). machine_run talk_step n u.state u.rest) (most_is x lines more)
+    ∙ subst (λ (s : CallState). machine_run talk_step most s u.rest ≡ machine_run call_step most s u.rest) (sym u.kept)
     (talk x.video.at most u.rest)
     in
     record {
@@ -103,8 +103,8 @@ module _ (x : CallParts) (before : List ReceiverEntry) (inputs : Role → List �
     state = first;
     rest = inputs;
     kept = kept;
-    turns = ap (λ (n : ℕ). (run_of talk_step n first inputs).turns) more_is;
-    last = ap (λ (n : ℕ). (run_of talk_step n first inputs).last) more_is;
+    turns = ap (λ (n : ℕ). (machine_run talk_step n first inputs).turns) more_is;
+    last = ap (λ (n : ℕ). (machine_run talk_step n first inputs).last) more_is;
     place = refl;
     told = told;
     whole = λ _ k turn less. absurd (omega (arith, less));

@@ -7,7 +7,7 @@ use Rattle.h263_outside.specs.declared.desk.Role.TheVariants.{Events}
 use Rattle.loss_trace.specs.declared.event.Event.{Event as Line}
 use Rattle.loss_trace.specs.declared.fault.TraceStop.{TraceStop}
 use Rattle.loss_trace.specs.Place.{TracePlace}
-use Rattle.loss_trace.specs.Reader.{EventGives, Moves}
+use Rattle.loss_trace.specs.Reader.{EventGives, MovesTrace}
 use Rattle.call_report.specs.declared.status.Status.{Status}
 use Rattle.desk_program.specs.Run.{Step}
 use Rattle.desk_program.specs.Ends.{Falls, Tells, TurnGives}
@@ -32,7 +32,7 @@ pub record IsLineRead (m : World) (after : TracePlace) (line : ℕ) (event : Lin
   pub recorded : m.terms.plain ≡ false
   pub gives : (text : List ℕ) → old.left Events ≡ Some text
       → EventGives (Ok (Some (line, event))) m.trace text after (mid.left Events)
-  pub moves : Moves (Ok (Some (line, event))) m.trace after
+  pub moves : MovesTrace (Ok (Some (line, event))) m.trace after
   pub others : (r : Role) → r ≢ Events → mid.left r ≡ old.left r
   pub rest : OnlyReads old mid
 
@@ -41,7 +41,7 @@ pub line_read : (m : World) (after : TracePlace) (line : ℕ) (event : Line) (ol
     (answer : Result (Option (ℕ × Line)) TraceStop) → answer ≡ Ok (Some (line, event))
     → TurnLaws → StepLaws → m.terms.plain ≡ false
     → ((text : List ℕ) → old.left Events ≡ Some text → EventGives answer m.trace text after (mid.left Events))
-    → Moves answer m.trace after
+    → MovesTrace answer m.trace after
     → ((r : Role) → r ≢ Events → mid.left r ≡ old.left r) → OnlyReads old mid → IsLineRead m after line event old mid
 line_read m after line event old mid answer is laws steps recorded gives moves others rest = record {
   laws = laws;
@@ -49,7 +49,7 @@ line_read m after line event old mid answer is laws steps recorded gives moves o
   recorded = recorded;
   gives = λ text left. subst (λ (q : Result (Option (ℕ × Line)) TraceStop). EventGives q m.trace text after
       (mid.left Events)) is (gives text left);
-  moves = subst (λ (q : Result (Option (ℕ × Line)) TraceStop). Moves q m.trace after) is moves;
+  moves = subst (λ (q : Result (Option (ℕ × Line)) TraceStop). MovesTrace q m.trace after) is moves;
   others = others;
   rest = rest;
 }

@@ -13,7 +13,7 @@ use Rattle.loss_trace.specs.declared.fault.TraceStop.{TraceStop}
 use Rattle.loss_trace.specs.declared.fault.TraceStop.TheVariants as stops
 use Rattle.loss_trace.specs.Place.{TracePlace}
 use Rattle.loss_trace.specs.Lines.{first_line, is_closed}
-use Rattle.loss_trace.specs.Reader.{EventGives, Moves}
+use Rattle.loss_trace.specs.Reader.{EventGives, MovesTrace}
 use Rattle.loss_trace.specs.Reading.{event_in}
 use Rattle.call_report.specs.declared.status.Status.{Status}
 use Rattle.call_report.specs.declared.status.Status.TheVariants.{Ok as Fine, TraceRefused}
@@ -106,7 +106,7 @@ module _ (laws : TurnLaws) (s : CallState) (inputs : Role
   bad_ends fault step is = record { last = bad_line fault; is = is; by = bad_by laws inputs old mid read fault }
 
   pub trace_stops : (stop : TraceStop) → EventGives (Err stop) reader (inputs Events) after (mid.left Events)
-      → Moves {A = Line} (Err stop) reader after
+      → MovesTrace {A = Line} (Err stop) reader after
       → GivesUp (phase (trace_stop stop)) (trace_stop stop) (trace_step by_ends s inputs (inputs Events))
       (may_read s) inputs old mid
   trace_stops stops.Read e moves = record {
@@ -132,7 +132,7 @@ module _ (laws : TurnLaws) (s : CallState) (inputs : Role
 
   -- after a line
   module _ (found : ℕ × Line) (e : EventGives (Ok (Some found)) reader (inputs Events) after (mid.left Events))
-      (moves : Moves (Ok (Some found)) reader after) where
+      (moves : MovesTrace (Ok (Some found)) reader after) where
     pub found_is : trace_step by_ends s inputs (inputs Events) ≡ event_step by_ends s inputs (inputs Events) found.1
     found_is = line_is s inputs (inputs Events) (Some found.1) e.0.some (omega (arith, moves.1, at.lines_are)) e.1
 

@@ -10,7 +10,8 @@ use Rattle.h263_outside.specs.declared.desk.Role.{Role}
 use Rattle.h263_outside.specs.declared.desk.Role.TheVariants.{Video, Events, Pictures, Wire, Report, Video2, Pictures2}
 use Rattle.loss_trace.specs.declared.fault.TraceFault.{TraceFault}
 use Rattle.loss_trace.specs.Place.{TracePlace}
-use Rattle.loss_trace.specs.Lines.{NoNewline, first_line, is_closed, later_lines}
+use Rattle.h263_outside.specs.Lines.{NoNewline}
+use Rattle.loss_trace.specs.Lines.{first_line, is_closed, later_lines}
 use Rattle.loss_trace.specs.Reader.{IsOver}
 use Rattle.call_report.specs.declared.status.Status.TheVariants.{Ok as Fine, TraceRefused}
 use Rattle.desk_program.specs.Run.{Turn, left_after}

@@ -2,7 +2,7 @@
 use Rattle.std.proofs.Common.{◌≡◌, ℕ, ◌+◌, ◌<◌, ◌≤◌, List, [], ◌∷◌, length, Option, Some, None, refl, ap, arith, lit≤, length-append}
 use Rattle.loss_trace.specs.declared.event.Event.{Event as Line}
 use Rattle.loss_trace.specs.declared.event.Event.TheVariants as says
-use Rattle.loss_trace.specs.Line.{IsLine, IsPart, Number, Part, Spell, Word, parts_of}
+use Rattle.loss_trace.specs.Line.{IsLine, IsEventPart, Number, Part, Spell, Word, line_parts}
 use Rattle.loss_trace.specs.Reading.{event_in}
 
 abbrev most_of : Part → ℕ
@@ -13,7 +13,7 @@ abbrev most : List Part → ℕ
 most [] = 0
 most (part ∷ parts) = most_of part + most parts
 
-part_len : (part : Part) (bytes : List ℕ) → IsPart part bytes → length bytes ≤ most_of part
+part_len : (part : Part) (bytes : List ℕ) → IsEventPart part bytes → length bytes ≤ most_of part
 part_len (Word word) bytes is = omega (arith, ap (λ (l : List ℕ). length l) is)
 part_len (Number n) bytes is = is.few
 
@@ -28,7 +28,7 @@ parts_len (part ∷ parts) bytes (front, rest, whole, is, h) =
       parts_len parts rest h,
     )
 
-event_len : (event : Line) → most (parts_of event) ≤ 17
+event_len : (event : Line) → most (line_parts event) ≤ 17
 event_len says.Nothing = lit≤ tt
 event_len says.Send = lit≤ tt
 event_len (says.Packet n i) = lit≤ tt
@@ -41,7 +41,7 @@ module _ (read : (line : List ℕ) (event : Line) → event_in line ≡ Some eve
   none_or rest None is long = refl
   none_or rest (Some event) is long = absurd (omega (
     arith,
-    parts_len (parts_of event) rest (read rest event is),
+    parts_len (line_parts event) rest (read rest event is),
     event_len event,
     long,
   ))

@@ -13,7 +13,7 @@ use Rattle.loss_trace.specs.Reading.{event_in}
 use Rattle.call_report.specs.declared.status.Status.TheVariants.{Video2Refused}
 use Rattle.call_model.specs.IdealCall.{Event, Send, Deliver, Play, Back}
 use Rattle.call_model.specs.Refusals.{Refusal}
-use Rattle.desk_program.specs.Run.{Run, Step, left_after, follow, run_from, run_of, silence}
+use Rattle.desk_program.specs.Run.{Run, Step, left_after, follow, run_from, machine_run, silence}
 use Rattle.call_command.specs.declared.terms.Terms.{Terms}
 use Rattle.call_command.specs.Call.{CallState, by_call, call_begin, call_step, capture_step, captured_step, frame_step, head_step, line_step, most_turns, refusal_at, trace_step, unless_refused, video_step}
 
@@ -74,13 +74,13 @@ module _ (fault : Y4mFault) where
     at_turn true ends = at_video (inputs Video) ends
     at_turn false ends = at_trace (inputs Events) ends
 
-  run_refuses_none : (n : ℕ) (s : CallState) (inputs : Role → List ℕ) → (run_of call_step n s inputs).last.status
+  run_refuses_none : (n : ℕ) (s : CallState) (inputs : Role → List ℕ) → (machine_run call_step n s inputs).last.status
       ≡ Video2Refused fault → ⊥
-  unfolding run_of
+  unfolding machine_run
   run_refuses_none zero s inputs ends = at_turn s inputs (λ next taken. silence) (λ next taken is. absurd (cc is))
       s.plain ends
   run_refuses_none (suc n) s inputs ends =
-      at_turn s inputs (λ next taken. run_of call_step n next (left_after inputs taken))
+      at_turn s inputs (λ next taken. machine_run call_step n next (left_after inputs taken))
       (λ next taken is. run_refuses_none n next (left_after inputs taken) is) s.plain ends
 
   pub none_refused : (t : Terms) (inputs : Role → List ℕ)
@@ -88,7 +88,7 @@ module _ (fault : Y4mFault) where
   none_refused t inputs ends = by_head (head_of (inputs Video)) ends
     where
       by_head : (r : Result Format Y4mFault)
-          → (follow (head_step t (inputs Video) r) (λ next taken. run_of call_step (most_turns t.plain) next
+          → (follow (head_step t (inputs Video) r) (λ next taken. machine_run call_step (most_turns t.plain) next
           (left_after inputs taken))).last.status ≡ Video2Refused fault → ⊥
       by_head (Ok f) ends = run_refuses_none (most_turns t.plain) _ _ ends
       by_head (Err broken) ends = absurd (cc ends)

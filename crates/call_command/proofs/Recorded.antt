@@ -13,17 +13,18 @@ use Rattle.y4m.specs.declared.fault.Y4mFault.{Y4mFault}
 use Rattle.y4m.specs.Frame.{next_frame, frame_size}
 use Rattle.y4m.specs.Laws.{FrameLaws}
 use Rattle.y4m.specs.Text.{frame_text}
-use Rattle.y4m.specs.Video.{after_frame, fault_of as video_fault_of, frames_of}
+use Rattle.y4m.specs.Video.{after_frame, first_video_fault as video_fault_of, frames_of}
 use Rattle.loss_trace.specs.declared.event.Event.{Event as Line}
 use Rattle.loss_trace.specs.declared.event.Event.TheVariants as says
 use Rattle.loss_trace.specs.declared.fault.TraceFault.{TraceFault}
 use Rattle.loss_trace.specs.declared.fault.TraceFault.TheVariants.{TooMany}
 use Rattle.loss_trace.specs.Lines.{later_lines, first_line, is_closed}
 use Rattle.loss_trace.specs.Reading.{event_in}
-use Rattle.loss_trace.specs.Trace.{events_from, events_of, fault_from, fault_of as trace_fault_of}
+use Rattle.loss_trace.specs.Trace.{events_from, events_of, fault_from, first_trace_fault as trace_fault_of}
 use Rattle.call_report.specs.declared.status.Status.{Status}
 use Rattle.call_report.specs.declared.status.Status.TheVariants.{TraceRefused, VideoRefused}
-use Rattle.call_report.specs.Text.{Text, picture_text}
+use Rattle.h263_types.specs.Texts.{Text}
+use Rattle.call_report.specs.Text.{picture_text}
 use Rattle.call_model.specs.Before.{CountsAreThose, played_before, sent_before}
 use Rattle.call_model.specs.Coding.{Shown, pictures_of}
 use Rattle.call_model.specs.CodedPictures.{Coded}
@@ -34,8 +35,8 @@ use Rattle.call_decoding.specs.Rules.{rules_of}
 use Rattle.call_decoding.specs.Styles.{Style}
 use Rattle.call_encoding.specs.Frames.{Frame}
 use Rattle.coded_call.specs.Coding.{coding}
-use Rattle.receiver_end.specs.Answers.{mark_of}
-use Rattle.desk_program.specs.Run.{Run, Step, Turn, left_after, follow, run_of, silence, taken_of, text_of, texts_of}
+use Rattle.receiver_end.specs.Answers.{mark_from}
+use Rattle.desk_program.specs.Run.{Run, Step, Turn, left_after, follow, machine_run, silence, taken_of, text_of, texts_of}
 use Rattle.desk_program.specs.Run.Step.{Goes, Ends}
 use Rattle.desk_program.specs.Texts.{and_of, no_texts, of, only_at_ok}
 use Rattle.one_way.specs.Both.{bare, steady}
@@ -64,10 +65,10 @@ lines_stay coded extra [] few = refl
 lines_stay coded extra (x ∷ plays) few =
     let before : length plays ≤ length coded = omega (arith, few) in
     let below : length plays < length coded = omega (arith, few) in
-    ap (λ (l : Text). l ++ picture_text (length plays) (Some (mark_of x.mark))
+    ap (λ (l : Text). l ++ picture_text (length plays) (Some (mark_from x.mark))
     (Some (reference_in (coded ++ extra) (length plays))) None) (lines_stay coded extra plays before)
     ∙ ap (λ (o : Option (Coded Style Mb Picture)). played_lines coded plays
-    ++ picture_text (length plays) (Some (mark_of x.mark))
+    ++ picture_text (length plays) (Some (mark_from x.mark))
     (Some (option_and_then (λ (y : Coded Style Mb Picture). y.reference) o)) None)
     (slice_left coded extra (length plays) below)
 
@@ -440,12 +441,13 @@ module _ (p : Params) (all : List Frame) (broken : Option Y4mFault) (later : Lat
           in
           let a = call all past in
           let n : length a.plays ≡ a.played = plays_count all past ∙ sym (counts all past).1 in
-          let row : ℕ → Text = λ m. picture_text m (Some (mark_of newest.mark)) (Some (reference_in a.coded m)) None in
+          let row : ℕ → Text = λ m. picture_text m (Some (mark_from newest.mark)) (Some (reference_in a.coded m)) None
+          in
           comes_more says.Play E F (lines + 1) past (Play ∷ past) (inputs Events) _
           (line_turn trace (play_texts (in_call (call frames (Play ∷ past))) c.played)) _ refl
           (near_all frames (Play ∷ past) _ on).0 refl
           (ap (λ (l : Text). shown_text a.plays
-          ++ l) (sym (append-nil (frame_text (mark_of newest.mark) newest.picture)) ∙ texts_are Pictures))
+          ++ l) (sym (append-nil (frame_text (mark_from newest.mark) newest.picture)) ∙ texts_are Pictures))
           (ap (λ (l : Text). rows a ++ l) (ap row n ∙ texts_are Report))
           (go frames (Play ∷ past) at more (not (is_closed trace)) (of Events size) (inputs Video) gone refl on still)
 
@@ -576,7 +578,7 @@ module _ (p : Params) (all : List Frame) (broken : Option Y4mFault) (later : Lat
         → IsOn frames2 past2 (ahead_of more2 at2 left) → fault_at more2 at2 left ≡ broken
         → Comes past2 (events_of n (later_lines trace)) (trace_fault_of n (lines + 1 + 1) (later_lines trace))
         (lines + 1 + 1) (left_after inputs taken Events)
-        (run_of call_step n (state frames2 past2 at2 more2 (lines + 1) ended2) (left_after inputs taken))
+        (machine_run call_step n (state frames2 past2 at2 more2 (lines + 1) ended2) (left_after inputs taken))
 
     module _ (frames : List Frame) (past : List Event) (at more lines : ℕ) (ended : Bool) (inputs : Role
         → List ℕ) (k : IsOn frames past (ahead_of more at (inputs Video))) (still : fault_at more at (inputs Video)
@@ -600,7 +602,7 @@ module _ (p : Params) (all : List Frame) (broken : Option Y4mFault) (later : Lat
 
       module _ (n : ℕ) where
         abbrev on_with : CallState → (Role → ℕ) → Run
-        on_with next taken = run_of call_step n next (left_after inputs taken)
+        on_with next taken = machine_run call_step n next (left_after inputs taken)
 
         choice_comes : (b : Bool) (bytes : ℕ) (trace : List ℕ) → inputs Events ≡ bytes ∷ trace
             → GoesOn n lines (bytes ∷ trace) inputs → lines + suc n ≡ 16777216 → nat_lt lines 16777216 ≡ b
@@ -630,15 +632,15 @@ module _ (p : Params) (all : List Frame) (broken : Option Y4mFault) (later : Lat
     pub run_comes : (n : ℕ) (frames : List Frame) (past : List Event) (at more lines : ℕ) (ended : Bool) (inputs : Role
         → List ℕ) → IsOn frames past (ahead_of more at (inputs Video)) → fault_at more at (inputs Video) ≡ broken
         → lines + n ≡ 16777216 → Comes past (events_of n (inputs Events)) (trace_fault_of n (lines + 1) (inputs Events))
-        (lines + 1) (inputs Events) (run_of call_step n (state frames past at more lines ended) inputs)
-    unfolding run_of events_of trace_fault_of
+        (lines + 1) (inputs Events) (machine_run call_step n (state frames past at more lines ended) inputs)
+    unfolding machine_run events_of trace_fault_of
     run_comes zero frames past at more lines ended inputs k still room =
         last_comes frames past at more lines ended inputs k still (inputs Events) room
     run_comes (suc n) frames past at more lines ended inputs k still room =
         step_comes frames past at more lines ended inputs k still n (inputs Events) refl
         (λ frames2 past2 at2 more2 ended2 taken left gone seen on still2.
         subst (λ (l : List ℕ). Comes past2 (events_of n l) (trace_fault_of n (lines + 1 + 1) l) (lines + 1 + 1)
-        (left_after inputs taken Events) (run_of call_step n (state frames2 past2 at2 more2 (lines + 1) ended2)
+        (left_after inputs taken Events) (machine_run call_step n (state frames2 past2 at2 more2 (lines + 1) ended2)
         (left_after inputs taken))) gone
         (run_comes n frames2 past2 at2 more2 (lines + 1) ended2 (left_after inputs taken)
         (subst (λ (l : List ℕ). IsOn frames2 past2 (ahead_of more2 at2 l)) (sym seen) on)

@@ -31,7 +31,7 @@ in_format p f is = record {
 
 module _ (x : CallParts) (fresh : IsFreshLink x.terms x.link) (laws : WayLaws x.terms.params)
     (sender_params : x.sender.params
-    ≡ x.terms.params) (sends : sender_end.Stands (steady x.terms.params) x.sender []) (sent : x.sender.sent
+    ≡ x.terms.params) (sends : sender_end.PacedStands (steady x.terms.params) x.sender []) (sent : x.sender.sent
     ≡ 0) (more : x.video.more ≡ 1048576) where
   pub stands_first : (before : List ReceiverEntry) (at : ℕ) (inputs : Role → List ℕ) → x.video.at ≡ at
       → x.receiver.params ≡ x.terms.params

@@ -14,7 +14,7 @@ use Rattle.loss_trace.specs.declared.event.Event.TheVariants as says
 use Rattle.loss_trace.specs.declared.fault.TraceFault.TheVariants.{TooMany}
 use Rattle.loss_trace.specs.Lines.{first_line}
 use Rattle.loss_trace.specs.Reading.{event_in}
-use Rattle.desk_program.specs.Run.{Run, Step, left_after, follow, run_of, silence}
+use Rattle.desk_program.specs.Run.{Run, Step, left_after, follow, machine_run, silence}
 use Rattle.desk_program.specs.Run.Step.{Goes, Ends}
 use Rattle.call_model.specs.CodedPictures.{Coded}
 use Rattle.call_model.specs.IdealCall.{Event, Send, Deliver, Play, Back, slices_at}
@@ -365,15 +365,16 @@ module _ (p : Params) (frames_law : LaterFramesBoth (coding p) (rules_of p)) (ev
     follow_same plain (Ends last) a b keeps same = refl
 
     same_run : (turns : ℕ) (plain : Bool) (s : CallState) (inputs : Role → List ℕ) → IsOnWay plain s
-        → run_of talk_step turns s inputs ≡ run_of call_step turns s inputs
-    unfolding run_of
+        → machine_run talk_step turns s inputs ≡ machine_run call_step turns s inputs
+    unfolding machine_run
     same_run zero plain s inputs k = ap (λ (step : Step CallState). follow step (λ next taken. silence))
         (same_turn plain s inputs k)
     same_run (suc turns) plain s inputs k =
-        follow_same plain (talk_step s inputs) (λ next taken. run_of talk_step turns next (left_after inputs taken))
-        (λ next taken. run_of call_step turns next (left_after inputs taken)) (keeps_turn plain s inputs k)
+        follow_same plain (talk_step s inputs) (λ next taken. machine_run talk_step turns next
+        (left_after inputs taken))
+        (λ next taken. machine_run call_step turns next (left_after inputs taken)) (keeps_turn plain s inputs k)
         (λ next on taken. same_run turns plain next (left_after inputs taken) on)
-        ∙ ap (λ (step : Step CallState). follow step (λ next taken. run_of call_step turns next
+        ∙ ap (λ (step : Step CallState). follow step (λ next taken. machine_run call_step turns next
         (left_after inputs taken))) (same_turn plain s inputs k)
 
 -- from the first state on

@@ -14,7 +14,7 @@ use Rattle.call_model.specs.IdealCall.{Event, Play}
 use Rattle.call_model.specs.Receiving.{ReceiverEntry, played_mark}
 use Rattle.call_decoding.specs.Rules.{rules_of}
 use Rattle.call_encoding.specs.Frames.{Frame}
-use Rattle.receiver_end.specs.Answers.{mark_of}
+use Rattle.receiver_end.specs.Answers.{mark_from}
 use Rattle.receiver_end.specs.Decoding.{decoding}
 use Rattle.one_way.specs.Both.{both_after, steady}
 use Rattle.one_way.specs.Seen.{in_both, reference_in}
@@ -51,7 +51,7 @@ module _ (turns : TurnLaws) (row : Row) (picture : Picture) (old mid : Role → 
 pub row_is : (p : Params) (before : List ReceiverEntry) (frames : List Frame) (past : List Event) (number : ℕ)
     (mark : Mark) (reference : Option ℕ) (picture : Picture) {played : ℕ}
     → number ≡ played → played ≡ (both_after p (steady p) frames before past).receiver.played
-    → mark ≡ mark_of (played_mark (decoding p.format) (rules_of p)
+    → mark ≡ mark_from (played_mark (decoding p.format) (rules_of p)
     (both_after p (steady p) frames before past).receiver)
     → reference ≡ reference_in (both_after p (steady p) frames before past).sender.coded number
     → picture ≡ (both_after p (steady p) frames before (Play ∷ past)).receiver.screen

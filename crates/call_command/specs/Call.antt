@@ -70,16 +70,16 @@ abbrev pub with_frame : CallState → Frame → CallState
 with_frame s frame = record s { frames = s.frames ++ frame ∷ []; past = Send ∷ s.past }
 
 -- the packet at place j of picture n is delivered; where there is none, nothing is
-abbrev pub with_packet : CallState → ℕ → ℕ → CallState
-with_packet s n j = record s { past = Deliver n j ∷ s.past }
+abbrev pub with_packet_delivered : CallState → ℕ → ℕ → CallState
+with_packet_delivered s n j = record s { past = Deliver n j ∷ s.past }
 
 -- message k comes back
 abbrev pub with_message : CallState → ℕ → CallState
 with_message s k = record s { past = Back k ∷ s.past }
 
 -- the next picture is played
-abbrev pub with_play : CallState → CallState
-with_play s = record s { past = Play ∷ s.past }
+abbrev pub with_next_play : CallState → CallState
+with_next_play s = record s { past = Play ∷ s.past }
 
 -- ---- texts
 
@@ -156,7 +156,7 @@ module _ (view : View) where
       (capture_step s trace (inputs Video))
   event_step s inputs trace (says.Packet n j) =
       unless_refused (s.lines + 1) trace (Deliver n j) (refusal_at s (Deliver n j))
-      (Goes (after_line (with_packet s n j) trace) (line_turn trace no_texts))
+      (Goes (after_line (with_packet_delivered s n j) trace) (line_turn trace no_texts))
   event_step s inputs trace (says.All n) =
       unless_refused (s.lines + 1) trace (Deliver n 0) (refusal_at s (Deliver n 0))
       (Goes (after_line (with_packets s n) trace) (line_turn trace no_texts))
@@ -165,7 +165,8 @@ module _ (view : View) where
       (Goes (after_line (with_message s k) trace) (line_turn trace no_texts))
   event_step s inputs trace says.Play =
       unless_refused (s.lines + 1) trace Play (refusal_at s Play)
-      (Goes (after_line (with_play s) trace) (line_turn trace (play_texts (view (with_play s)) (view s).played)))
+      (Goes (after_line (with_next_play s) trace)
+      (line_turn trace (play_texts (view (with_next_play s)) (view s).played)))
 
   abbrev pub line_step : CallState → (Role → List ℕ) → List ℕ → Option Line → Step CallState
   line_step s inputs trace None = Ends (bad_line (BadLine (s.lines + 1)))
@@ -184,7 +185,7 @@ module _ (view : View) where
   -- a frame is sent, its packets are delivered, and a picture is played
   abbrev pub with_whole_frame : CallState → List ℕ → CallState
   with_whole_frame s planes =
-      with_play (with_packets (with_frame s (bare (picture_of s.params.format planes))) (length s.frames))
+      with_next_play (with_packets (with_frame s (bare (picture_of s.params.format planes))) (length s.frames))
 
   -- a frame is passed on, or refused
   abbrev pub frame_step : CallState → List ℕ → Result (List ℕ) Y4mFault → Step CallState

@@ -2,7 +2,7 @@
 use Rattle.std.specs.Prelude.{◌≡◌, ℕ, Bool, List, []}
 use Rattle.h263_outside.specs.declared.desk.Role.{Role}
 use Rattle.call_model.specs.Receiving.{ReceiverEntry}
-use Rattle.desk_program.specs.Run.{Run, run_of, end_state}
+use Rattle.desk_program.specs.Run.{Run, machine_run, end_state}
 use Rattle.sender_end.specs.Stands as sender_end
 use Rattle.receiver_end.specs.State as receiver_end
 use Rattle.call_command.specs.declared.begun.Begun.{Begun}
@@ -40,14 +40,14 @@ pub record MayConverse (attached : Role → Bool) (begun : Begun) : Type 0 where
   pub receiver_params : begun.both.receiver.params ≡ begun.terms.params
   pub quant : begun.both.sender.pace.quant ≡ begun.terms.params.quant
   pub sent : begun.both.sender.sent ≡ 0
-  pub sends : sender_end.Stands (steady begun.terms.params) begun.both.sender []
+  pub sends : sender_end.PacedStands (steady begun.terms.params) begun.both.sender []
   pub played : begun.both.receiver.played ≡ 0
   pub receives : receiver_end.Stands begun.both.receiver []
 
 -- the call of these terms, by both ends, where the receiver had heard these entries before and the
 -- video's first frame is at this byte
 abbrev pub talk_of : Terms → List ReceiverEntry → ℕ → (Role → List ℕ) → Run
-talk_of t before at inputs = run_of talk_step (most_turns t.plain) (call_at_start t before at) inputs
+talk_of t before at inputs = machine_run talk_step (most_turns t.plain) (call_at_start t before at) inputs
 
 -- the state in which it ends: what was accepted
 abbrev pub talk_end : Terms → List ReceiverEntry → ℕ → (Role → List ℕ) → CallState

@@ -1,8 +1,9 @@
 -- The line of a call's counts.
 use Rattle.std.specs.Prelude.{ℕ, [], ◌∷◌, length, codes}
-use Rattle.call_report.specs.Text.{Text, counts}
+use Rattle.h263_types.specs.Texts.{Text}
+use Rattle.call_report.specs.Text.{counts}
 use Rattle.one_way.specs.declared.tally.Tally.{Tally}
-use Rattle.one_way.specs.Counts.{count_of, one_exact, one_held, one_patched}
+use Rattle.one_way.specs.Counts.{plays_marked, one_exact, one_held, one_patched}
 use Rattle.one_way.specs.Seen.{Seen}
 
 -- the line of these counts, with this word for the pictures that were played
@@ -22,8 +23,8 @@ counts_text = counts_text_of (codes "played")
 -- the line of a call: how many pictures were played and sent, and how the plays were marked
 abbrev pub call_text_of : Text → Seen → Text
 call_text_of word seen =
-    counts_text_of word seen.played (length seen.coded) (count_of one_exact seen.plays)
-    (count_of one_patched seen.plays) (count_of one_held seen.plays)
+    counts_text_of word seen.played (length seen.coded) (plays_marked one_exact seen.plays)
+    (plays_marked one_patched seen.plays) (plays_marked one_held seen.plays)
 
 abbrev pub call_text : Seen → Text
 call_text = call_text_of (codes "played")

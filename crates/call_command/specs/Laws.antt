@@ -6,7 +6,8 @@ use Rattle.h263_outside.specs.declared.desk.Role.TheVariants.{Events, Video}
 use Rattle.h263_types.specs.declared.format.Format.{Format}
 use Rattle.y4m.specs.Head.{head_of, head_size}
 use Rattle.y4m.specs.Frame.{frame_of, frame_size}
-use Rattle.loss_trace.specs.Lines.{NoNewline, later_lines, is_closed}
+use Rattle.h263_outside.specs.Lines.{NoNewline}
+use Rattle.loss_trace.specs.Lines.{later_lines, is_closed}
 use Rattle.loss_trace.specs.Reader.{IsOver}
 use Rattle.loss_trace.specs.declared.fault.TraceFault.{TraceFault}
 use Rattle.loss_trace.specs.Place.{TracePlace}
@@ -16,7 +17,7 @@ use Rattle.call_model.specs.Coding.{Rules}
 use Rattle.call_model.specs.IdealCall.{Send, Deliver, Play}
 use Rattle.call_model.specs.Refusals.{NoFrame, Refusal, first_refusal}
 use Rattle.desk_program.specs.Ends.{EndsBy, Gains, IsPart, Tells, holds}
-use Rattle.desk_program.specs.Run.{Turn, left_after, run_of}
+use Rattle.desk_program.specs.Run.{Turn, left_after, machine_run}
 use Rattle.desk_program.specs.Texts.{and_of, no_texts, of}
 use Rattle.call_command.specs.declared.terms.Terms.{Terms}
 use Rattle.call_command.specs.Call.{bad_line, call_step, call_at_start, line_size, refused_line, talk_step}
@@ -27,7 +28,8 @@ use Rattle.call_command.specs.Standing.{HasTaken, ReadsTrace}
 abbrev pub TalkIsTheCall : Terms → Type 0
 TalkIsTheCall t =
     (at turns : ℕ) (inputs : Role → List ℕ)
-    → run_of talk_step turns (call_at_start t [] at) inputs ≡ run_of call_step turns (call_at_start t [] at) inputs
+    → machine_run talk_step turns (call_at_start t [] at) inputs
+    ≡ machine_run call_step turns (call_at_start t [] at) inputs
 
 -- a whole head or frame stays what it is where the text after it is cut
 pub record VideoLaws : Type 0 where

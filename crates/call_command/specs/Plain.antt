@@ -12,7 +12,8 @@ use Rattle.y4m.specs.Text.{head_text, frame_text}
 use Rattle.y4m.specs.declared.fault.Y4mFault.{Y4mFault}
 use Rattle.call_report.specs.declared.status.Status.{Status}
 use Rattle.call_report.specs.declared.status.Status.TheVariants.{Ok as Fine, VideoRefused}
-use Rattle.call_report.specs.Text.{Text, picture_text}
+use Rattle.h263_types.specs.Texts.{Text}
+use Rattle.call_report.specs.Text.{picture_text}
 use Rattle.call_model.specs.CodedPictures.{capture}
 use Rattle.call_decoding.specs.Samples.{pictures}
 use Rattle.call_encoding.specs.Encoding.{encoding}

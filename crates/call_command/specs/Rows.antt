@@ -6,7 +6,7 @@ use Rattle.h263_outside.specs.declared.desk.Role.TheVariants.{Report}
 use Rattle.y4m.specs.Text.{frame_text}
 use Rattle.call_report.specs.Text.{picture_text}
 use Rattle.call_model.specs.Coding.{Shown}
-use Rattle.receiver_end.specs.Answers.{mark_of}
+use Rattle.receiver_end.specs.Answers.{mark_from}
 use Rattle.desk_program.specs.Texts.{no_texts, on, then_also}
 use Rattle.call_command.specs.declared.show.Row.{Row}
 
@@ -19,8 +19,8 @@ row_texts row picture =
 -- the picture n that was shown, where it goes to this output, and its line has this letter or none
 abbrev pub shown_texts : Role → Option ℕ → ℕ → Option ℕ → Shown Picture → Role → List ℕ
 shown_texts role letter n reference shown =
-    then_also (on role (frame_text (mark_of shown.mark) shown.picture))
-    (on Report (picture_text n (Some (mark_of shown.mark)) (Some reference) letter))
+    then_also (on role (frame_text (mark_from shown.mark) shown.picture))
+    (on Report (picture_text n (Some (mark_from shown.mark)) (Some reference) letter))
 
 -- that of the newest play
 abbrev pub newest_texts : Role → Option ℕ → ℕ → Option ℕ → List (Shown Picture) → Role → List ℕ

@@ -1,6 +1,6 @@
 //! The line of a call's counts.
 ghost use Rattle.std.specs.Prelude.{◌≡◌, ◌≤◌, length};
-ghost use Rattle.call_report.specs.View.{text_of};
+ghost use Rattle.call_report.specs.View.{line_text};
 ghost use Rattle.call_command.specs.Counts.{counts_with};
 
 use call_report::Line;
@@ -10,7 +10,7 @@ use one_way::Tally;
 /// and sent.
 pub fn counts_line(word: &str, tally: Tally, played: u32, sent: u32) -> Line
     requires { length word.now ≤ 16 }
-    ensures { text_of result ≡ counts_with word.now tally played sent }
+    ensures { line_text result ≡ counts_with word.now tally played sent }
 {
     let mut line = Line::empty();
     line.pair(word, played as u64);

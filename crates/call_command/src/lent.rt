@@ -38,7 +38,7 @@ pub fn converse<D: Desk>(alloc: Global, desk: &mut D, call: &mut Begun) -> Statu
     requires receiver_params { call.old.both.receiver.params ≡ call.old.terms.params }
     requires quant { call.old.both.sender.pace.quant ≡ call.old.terms.params.quant }
     requires sent { call.old.both.sender.sent ≡ 0 }
-    requires sends { sender_end.Stands (steady call.old.terms.params) call.old.both.sender [] }
+    requires sends { sender_end.PacedStands (steady call.old.terms.params) call.old.both.sender [] }
     requires played { call.old.both.receiver.played ≡ 0 }
     ensures gives { (before : List ReceiverEntry) (inputs : Role → List ℕ)
         → Stands call.old.both.receiver before → Tells (D.outside desk.old) inputs

@@ -11,7 +11,7 @@ use Rattle.h263_planes.specs.Samples.{Inside, IsWhole, sample_at}
 use Rattle.h263_planes.specs.Spots.{spot, sample_of, owner_of, AreSpots, ArePicturesBySamples}
 use Rattle.picture_recon.specs.Samples.{sample_in}
 use Rattle.picture_recon.specs.Samples as recon
-use Rattle.call_model.specs.Coding.{reconstruction}
+use Rattle.call_model.specs.Coding.{decoded_picture}
 use Rattle.call_model.specs.Lawful.{IsMade, IsPictures}
 use Rattle.call_decoding.specs.Rules.{rules_of}
 use Rattle.call_decoding.specs.Samples.{pictures}
@@ -40,7 +40,7 @@ pub reconstructed : ArePicturesBySamples → ((f : Format) (rounding : ℕ) (ref
     → Inside f plane x y 1 → sample_at (recon.reconstruction f rounding reference mbs) plane x y
     ≡ sample_in rounding reference (mb_in mbs (mb_of f plane x y)) plane x y)
     → AreSpots → (f : Format) (style : Style) (reference : Option Picture) (mbs : List Mb)
-    → reconstruction (pictures f) style reference mbs ≡ recon.reconstruction f style.rounding reference mbs
+    → decoded_picture (pictures f) style reference mbs ≡ recon.reconstruction f style.rounding reference mbs
 reconstructed by whole format samples spots f style reference mbs =
     sym (by.only f (recon.reconstruction f style.rounding reference mbs) (value f style reference mbs)
     (format f style.rounding reference mbs) (whole f style.rounding reference mbs)

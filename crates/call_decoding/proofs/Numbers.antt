@@ -11,7 +11,7 @@ use Rattle.h263_types.specs.Clocks.{half_of}
 use Rattle.picture_header.specs.declared.header.Header.{Header}
 use Rattle.call_model.specs.Lawful.{IsRules}
 use Rattle.call_decoding.specs.Rules.{rules_of}
-use Rattle.call_decoding.specs.Styles.{clock_with, header_from, header_of}
+use Rattle.call_decoding.specs.Styles.{clock_with, header_from, call_header_of}
 
 some_mbs : (f : Format) → 0 < mbs_of f
 some_mbs SubQcif = lit< tt
@@ -33,5 +33,5 @@ clock_is : (c : Clock) → clock_with (half_of c) ≡ c
 clock_is Standard = refl
 clock_is Custom = refl
 
-pub whole : (h : Header) → header_from (header_of h) ≡ h
+pub whole : (h : Header) → header_from (call_header_of h) ≡ h
 whole h = ap (λ (c : Clock). record h { clock = c }) (clock_is h.clock)

@@ -6,8 +6,8 @@ use Rattle.h263_types.specs.Sizes.{mbs_of}
 use Rattle.call_model.specs.Coding.{Rules}
 
 -- how many flags a message of this version has
-abbrev pub flags_in : ℕ → ℕ
-flags_in version = if version == 2 then 14 else 0
+abbrev pub flags_in_version : ℕ → ℕ
+flags_in_version version = if version == 2 then 14 else 0
 
 abbrev pub rules_of : Params → Rules
 rules_of p =
@@ -17,5 +17,5 @@ rules_of p =
       half = half_of p.clock;
       chain = 131;
       mbs = mbs_of p.format;
-      flags = flags_in p.messages;
+      flags = flags_in_version p.messages;
     }

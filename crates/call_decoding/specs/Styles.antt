@@ -31,8 +31,8 @@ style_of h =
     }
 
 -- a header as a call sees it
-abbrev pub header_of : Header → call.Header Style
-header_of h =
+abbrev pub call_header_of : Header → call.Header Style
+call_header_of h =
     record { number = h.tr; reference = h.trp; half = half_of h.clock; style = style_of h }
 
 -- the clock with this half period

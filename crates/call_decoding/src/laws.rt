@@ -9,11 +9,11 @@ ghost use Rattle.h263_planes.specs.Picture.{Picture};
 ghost use Rattle.h263_planes.specs.Samples.{IsWhole};
 ghost use Rattle.picture_header.specs.declared.header.Header.{Header};
 ghost use Rattle.picture_recon.specs.Samples as recon;
-ghost use Rattle.call_model.specs.Coding.{reconstruction};
+ghost use Rattle.call_model.specs.Coding.{decoded_picture};
 ghost use Rattle.call_model.specs.Lawful.{IsMade, IsPictures, IsRules};
 ghost use Rattle.call_decoding.specs.Rules.{rules_of};
 ghost use Rattle.call_decoding.specs.Samples.{pictures};
-ghost use Rattle.call_decoding.specs.Styles.{Style, header_from, header_of};
+ghost use Rattle.call_decoding.specs.Styles.{Style, header_from, call_header_of};
 
 use h263_planes::laws::{numbered_samples, picture_by_samples};
 use picture_recon::laws::samples_are_reconstruction;
@@ -25,7 +25,7 @@ pub fn are_rules()
 
 /// A call sees all of a picture header.
 pub fn whole_header()
-    ensures { (h : Header) → header_from (header_of h) ≡ h }
+    ensures { (h : Header) → header_from (call_header_of h) ≡ h }
 {}
 
 /// A picture is its samples (`pictures`), each whole one is made of samples (`made`), and a picture
@@ -35,7 +35,7 @@ pub fn are_pictures()
     ensures made { (f : Format) (p : Picture) → p.format ≡ f → IsWhole p
         → IsMade (pictures f) p }
     ensures reconstructed { (f : Format) (style : Style) (reference : Option Picture)
-        (mbs : List Mb) → reconstruction (pictures f) style reference mbs
+        (mbs : List Mb) → decoded_picture (pictures f) style reference mbs
         ≡ recon.reconstruction f style.rounding reference mbs }
 {
     numbered_samples();

@@ -1,8 +1,8 @@
 //! Decoding as both ends of a call use it: the numbers of a call by its parameters, picture headers
 //! by their styles, and pictures by their samples. Nothing is done at run time.
 //!
-//! The definitions are in `specs/`: `rules_of`, `Style` with `header_of`, and `pictures`, which is
-//! the `Pictures` of `call_model` for a format. `laws` has what the laws of a call ask of these.
+//! The definitions are in `specs/`: `rules_of`, `Style` with `call_header_of`, and `pictures`, which
+//! is the `Pictures` of `call_model` for a format. `laws` has what the laws of a call ask of these.
 //! [`Styled`] and [`Pictured`] name the types of values at which those laws are called.
 //!
 //! ```rust

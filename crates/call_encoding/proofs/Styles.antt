@@ -24,7 +24,7 @@ use Rattle.call_model.specs.Coding as call
 use Rattle.call_model.specs.Lawful.{FitsHeader}
 use Rattle.call_decoding.specs.Rules.{rules_of}
 use Rattle.call_decoding.specs.Styles.{Style, clock_with, header_from}
-use Rattle.call_encoding.specs.Frames.{are_marks, carried, header_in, in_format, is_of_clock, kind_of, some_reference, style_with}
+use Rattle.call_encoding.specs.Frames.{are_marks, carried, styled_header, in_format, is_of_clock, kind_of, some_reference, style_with}
 
 pub clock_back : (clock : Clock) → clock_with (half_of clock) ≡ clock
 clock_back Standard = refl
@@ -189,7 +189,7 @@ header_in_range p all predicted depth quant h q style fits =
 -- ---- choice and cut by the style
 
 same_choice : (p : Params) (picture : Picture) (reference : Option Picture) (h : call.Header Style)
-    → choices_of picture reference (header_from h) p ≡ choices_of picture reference (header_in p.clock h.style) p
+    → choices_of picture reference (header_from h) p ≡ choices_of picture reference (styled_header p.clock h.style) p
 unfolding choices_of
 same_choice p picture None h = refl
 same_choice p picture (Some reference) h = refl
@@ -197,9 +197,9 @@ same_choice p picture (Some reference) h = refl
 pub choice_is : (p : Params) (picture : Picture) (reference : Option Picture) (h : call.Header Style)
     → picture.format ≡ p.format
     → choices_of picture reference (header_from h) p ≡ choices_of (in_format p.format picture) reference
-    (header_in p.clock h.style) p
+    (styled_header p.clock h.style) p
 choice_is p picture reference h format =
-    same_choice p picture reference h ∙ ap (λ (q : Picture). choices_of q reference (header_in p.clock h.style) p)
+    same_choice p picture reference h ∙ ap (λ (q : Picture). choices_of q reference (styled_header p.clock h.style) p)
     (sym (in_its_format p.format picture format))
 
 some_where_predicted : (predicted : Bool) → is_some (some_reference (kind_of predicted)) ≡ predicted
@@ -214,7 +214,7 @@ reference_bits_same (Some m) None e = cc
 
 pub one_style : (p : Params) (predicted : Bool) (h : call.Header Style) → FitsHeader (rules_of p) predicted h
     → h.style.kind ≡ kind_of predicted
-    → HaveOneForm (header_from h) (header_in p.clock h.style)
+    → HaveOneForm (header_from h) (styled_header p.clock h.style)
 one_style p predicted h fits kind =
     let named : is_some h.reference ≡ is_some (some_reference h.style.kind) = fits.kind
     ∙ sym (some_where_predicted predicted) ∙ sym (ap (λ (k : Kind). is_some (some_reference k)) kind) in

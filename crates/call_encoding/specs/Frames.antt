@@ -63,8 +63,8 @@ some_reference I = None
 some_reference P = Some 0
 
 -- A header of this style, with any temporal references: choice and cut depend on none.
-abbrev pub header_in : Clock → Style → Header
-header_in clock style =
+abbrev pub styled_header : Clock → Style → Header
+styled_header clock style =
     header_from
     (record {
       number = 0;

@@ -22,7 +22,7 @@ ghost use Rattle.call_decoding.specs.Samples.{pictures};
 ghost use Rattle.call_decoding.specs.Styles.{Style, header_from};
 ghost use Rattle.call_encoding.specs.Encoding.{encoding};
 ghost use Rattle.call_encoding.specs.Frames.{Frame, carried, in_format, kind_of, style_with};
-ghost use Rattle.call_encoding.specs.Messages.{written};
+ghost use Rattle.call_encoding.specs.Messages.{written_message};
 
 use back_messages::laws::{exact_text, in_a_syntax};
 use mode_choice::laws::one_for_each_place;
@@ -42,7 +42,7 @@ pub fn is_encoding()
 
 /// The bytes that are written of a message are its text.
 pub fn written_text()
-    ensures { (m : Message) → bits_of (written m) ≡ message_text m }
+    ensures { (m : Message) → bits_of (written_message m) ≡ message_text m }
 {
     in_a_syntax();
 }

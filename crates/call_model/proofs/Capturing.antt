@@ -8,11 +8,11 @@ use Rattle.std.proofs.lemmas.List.{append-nil}
 use Rattle.std.proofs.lemmas.List.FromFn.{length-map-range_with_len}
 use Rattle.std.proofs.Math.Nat.{mod-lt}
 use Rattle.call_model.specs.Numbers.{greatest}
-use Rattle.call_model.specs.Coding.{Rules, window, period, Slice, Pictures, Encoding, Coding, pictures_of, reconstruction, reconstruction_of_slices, mb_among}
+use Rattle.call_model.specs.Coding.{Rules, window, period, Slice, Pictures, Encoding, Coding, pictures_of, decoded_picture, reconstruction_of_slices, mb_among}
 use Rattle.call_model.specs.CodedPictures.{Coded, picture_at, capture, reference_for, is_among, depth_at}
 use Rattle.call_model.specs.IdealCall.{Event, Send, Deliver, Play, Back, Call, call_from, encoded}
-use Rattle.call_model.specs.Sending.{header_of, packets_of, packets_before, bytes_in, last_sizes, next_coded}
-use Rattle.call_model.specs.Sound.{IsSoundPicture, IsPacket, IsSoundEvent, AllSound}
+use Rattle.call_model.specs.Sending.{header_of, packets_at, packets_before, bytes_together, last_sizes, next_coded}
+use Rattle.call_model.specs.Sound.{IsSoundPicture, IsPacketOfSlice, IsSoundEvent, AllSound}
 use Rattle.call_model.specs.Lawful.{Divides, IsMade, IsChosen, IsPictures, IsEncoding, IsCoding, IsRules, IsPace, FitsHeader}
 use Rattle.call_model.proofs.ListLemmas.{slice_get_push, greatest_passes}
 use Rattle.call_model.proofs.Fullness.{mb_among_is}
@@ -137,7 +137,7 @@ module _ {Frame Style Mb Picture MessageFault : Type 0} (pictures : Pictures Sty
   sizes_few : (coded : List (Coded Style Mb Picture)) → length (last_sizes encoding rules coded) ≤ 16
   sizes_few coded =
       let count : length (last_sizes encoding rules coded) ≡ length coded - (length coded - 16) =
-      length-map-range_with_len (λ n. bytes_in (packets_of encoding rules coded n)) (length coded - 16)
+      length-map-range_with_len (λ n. bytes_together (packets_at encoding rules coded n)) (length coded - 16)
       (length coded - (length coded - 16)) in
       omega (arith, count)
 
@@ -150,7 +150,7 @@ module _ {Frame Style Mb Picture MessageFault : Type 0} (pictures : Pictures Sty
 
   -- the picture by its slices is the picture by its macroblocks
   by_slices : IsPictures pictures rules → (style : Style) (reference : Option Picture) (slices : List (Slice Mb))
-      (mbs : List Mb) → Divides pictures.skip rules.mbs slices mbs → reconstruction pictures style reference mbs
+      (mbs : List Mb) → Divides pictures.skip rules.mbs slices mbs → decoded_picture pictures style reference mbs
       ≡ reconstruction_of_slices pictures style reference slices
   by_slices lawful style reference slices mbs divides =
       lawful.picture_same _ _ (λ s inside. ap (λ (mb : Mb). pictures.reconstructed_sample style reference mb s)
@@ -192,9 +192,9 @@ module _ {Frame Style Mb Picture Fault MessageFault : Type 0}
     (coding : Coding Frame Style Mb Picture Fault MessageFault) (rules : Rules) (lawful : IsCoding coding rules)
     (ruled : IsRules rules) where
   packets_of_is : (coded : List (Coded Style Mb Picture)) (n : ℕ) (x : Coded Style Mb Picture)
-      → slice_get coded n ≡ Some x → packets_of coding.encoding rules coded n
+      → slice_get coded n ≡ Some x → packets_at coding.encoding rules coded n
       ≡ coding.encoding.packets n (packets_before (take n coded)) (header_of rules n x) x.slices
-  unfolding packets_of
+  unfolding packets_at
   packets_of_is coded n x at_n = rw at_n refl
 
   header_fits : (n : ℕ) (x : Coded Style Mb Picture) → FitsHeader rules (is_some x.reference) (header_of rules n x)
@@ -244,7 +244,7 @@ module _ {Frame Style Mb Picture Fault MessageFault : Type 0}
 
   pub is_packet : (coded : List (Coded Style Mb Picture)) (n j : ℕ) (x : Coded Style Mb Picture)
       → slice_get coded n ≡ Some x → IsEncoded (pictures_of coding) coding.encoding x
-      → IsPacket coding.decoding rules (packets_of coding.encoding rules coded n) n j x
+      → IsPacketOfSlice coding.decoding rules (packets_at coding.encoding rules coded n) n j x
   is_packet coded n j x at_n one = record {
     read_as = λ slice at_j.
         let got = written_again n (packets_before (take n coded)) j x slice one at_j in
@@ -276,7 +276,7 @@ module _ {Frame Style Mb Picture Fault MessageFault : Type 0}
     all_encoded (Back k ∷ past) = all_encoded past
 
     pub sound_event : (past : List Event) (e : Event)
-        → IsSoundEvent coding.decoding rules (encoded coding rules pace frames) (packets_of coding.encoding rules)
+        → IsSoundEvent coding.decoding rules (encoded coding rules pace frames) (packets_at coding.encoding rules)
         (call past) e
     sound_event past Send = λ x is. go x (slice_get frames (length c.coded)) is
       where
@@ -301,7 +301,7 @@ module _ {Frame Style Mb Picture Fault MessageFault : Type 0}
 
   -- each event of a call by the encoder is sound
   pub all_sound : (pace : List ℕ → ℕ) (frames : List Frame) → IsPace pace → (past : List Event)
-      → AllSound coding.decoding rules (encoded coding rules pace frames) (packets_of coding.encoding rules) past
+      → AllSound coding.decoding rules (encoded coding rules pace frames) (packets_at coding.encoding rules) past
   all_sound pace frames range [] = tt
   all_sound pace frames range (e ∷ past) = (
     sound_event rules pace frames range past e,

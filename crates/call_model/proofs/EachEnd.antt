@@ -4,7 +4,7 @@ use Rattle.std.specs.Prelude.{slice_get}
 use Rattle.std.specs.Option.{option_map_or}
 use Rattle.call_model.specs.Coding.{Rules, Coding, pictures_of}
 use Rattle.call_model.specs.IdealCall.{Event, Send, Deliver, Play, Back}
-use Rattle.call_model.specs.Sending.{SenderRun, SenderEntry, Capture, Feedback, after_capture, after_feedback, packets_of, sender_run}
+use Rattle.call_model.specs.Sending.{SenderRun, SenderEntry, Capture, Feedback, after_capture, after_feedback, packets_at, sender_run}
 use Rattle.call_model.specs.Receiving.{ReceiverRun, ReceiverEntry, Packet, after_packet, after_play, receiver_run}
 use Rattle.call_model.specs.JoinedRun.{SaidMessage, Joined, after_bytes, joined, sender_entries, receiver_entries, EachEndRuns}
 
@@ -55,7 +55,7 @@ module _ {Frame Style Mb Picture Fault MessageFault : Type 0}
       (sender_is receiver pace frames past)
   sender_is receiver pace frames (Deliver n j ∷ past) =
       after_bytes_keeps (joined coding rules receiver pace frames past) n
-      (slice_get (packets_of coding.encoding rules (joined coding rules receiver pace frames past).sender.coded n)
+      (slice_get (packets_at coding.encoding rules (joined coding rules receiver pace frames past).sender.coded n)
       j) ∙ sender_is receiver pace frames past
   sender_is receiver pace frames (Play ∷ past) = sender_is receiver pace frames past
   sender_is receiver pace frames (Back k ∷ past) = sender_back receiver pace frames past k
@@ -68,7 +68,7 @@ module _ {Frame Style Mb Picture Fault MessageFault : Type 0}
   receiver_is entries pace frames [] = refl
   receiver_is entries pace frames (Send ∷ past) = receiver_is entries pace frames past
   receiver_is entries pace frames (Deliver n j ∷ past) =
-      go (slice_get (packets_of coding.encoding rules (joined coding rules (receiver_run coding.decoding rules entries)
+      go (slice_get (packets_at coding.encoding rules (joined coding rules (receiver_run coding.decoding rules entries)
       pace frames past).sender.coded n) j) (receiver_is entries pace frames past)
     where
       go : (o : Option (List ℕ))

@@ -11,9 +11,9 @@ use Rattle.std.proofs.lemmas.List.Folds.{list_any-append}
 use Rattle.std.proofs.lemmas.Option.{slice_get_cases, slice_get_within}
 use Rattle.std.proofs.Math.Nat.{mod-lt, mod-add-mod}
 use Rattle.call_model.specs.Numbers.{greatest}
-use Rattle.call_model.specs.Coding.{Rules, window, Message, Pictures, Encoding, reconstruction}
+use Rattle.call_model.specs.Coding.{Rules, window, Message, Pictures, Encoding, decoded_picture}
 use Rattle.call_model.specs.CodedPictures.{Coded, depth_at, picture_at, is_among, reference_for, capture}
-use Rattle.call_model.specs.Sending.{SenderRun, Noted, Old, header_of, bytes_in, made_known, known_by_feedback, feedback_answer, packets_before, packets_of, last_numbers, last_sizes}
+use Rattle.call_model.specs.Sending.{SenderRun, Noted, Old, header_of, bytes_together, made_known, known_by_feedback, feedback_answer, packets_before, packets_at, last_numbers, last_sizes}
 use Rattle.call_model.specs.Stands.{Sender, IsRecent, SenderKeeps}
 use Rattle.call_model.specs.SenderStanding.{reference_by_kept, with_size, is_noted, next_by_kept}
 use Rattle.call_model.specs.Steering.{SteeredRun, known_from, from_floor, made_by_kept, NextAboveNothing, NextIsSteered, NewHolds, CaptureHolds, FeedbackHolds, OtherFeedbackHolds}
@@ -143,7 +143,7 @@ module _ {Frame Style Mb Picture MessageFault : Type 0} (pictures : Pictures Sty
         depth = depth;
         style = style;
         slices = encoding.cut style mbs;
-        picture = reconstruction pictures style before mbs;
+        picture = decoded_picture pictures style before mbs;
       }
 
   same_coded : (frame : Frame) (q q' : ℕ) (r r' : Option ℕ) (d d' : ℕ) (b b' : Option Picture) → q ≡ q' → r ≡ r'
@@ -200,7 +200,7 @@ module _ {Frame Style Mb Picture MessageFault : Type 0} (pictures : Pictures Sty
       (length r.run.coded) m e in (h.0, h.1))
 
   pub new_holds : NewHolds pictures encoding rules
-  unfolding packets_of
+  unfolding packets_at
   new_holds s sent sequence packets sizes = record {
     keeps = record {
       sent = sent;
@@ -216,8 +216,8 @@ module _ {Frame Style Mb Picture MessageFault : Type 0} (pictures : Pictures Sty
 
   -- an earlier picture has the packets that it had
   packets_earlier : (coded : List (Coded Style Mb Picture)) (x : Coded Style Mb Picture) (m : ℕ) → m < length coded
-      → packets_of encoding rules (coded ++ x ∷ []) m ≡ packets_of encoding rules coded m
-  unfolding packets_of
+      → packets_at encoding rules (coded ++ x ∷ []) m ≡ packets_at encoding rules coded m
+  unfolding packets_at
   packets_earlier coded x m lt =
       elim (slice_get_cases coded m).1 [
         | inl h ↦
@@ -229,9 +229,9 @@ module _ {Frame Style Mb Picture MessageFault : Type 0} (pictures : Pictures Sty
 
   -- the new picture has those of its slices
   packets_newest : (coded : List (Coded Style Mb Picture)) (x : Coded Style Mb Picture)
-      → packets_of encoding rules (coded ++ x ∷ []) (length coded)
+      → packets_at encoding rules (coded ++ x ∷ []) (length coded)
       ≡ encoding.packets (length coded) (packets_before coded) (header_of rules (length coded) x) x.slices
-  unfolding packets_of
+  unfolding packets_at
   packets_newest coded x =
       let front : take (length coded) (coded ++ x ∷ []) ≡ coded = take-append-le (length coded) coded (x ∷ [])
       (omega arith) ∙ take_all (length coded) coded (omega arith) in
@@ -288,7 +288,7 @@ module _ {Frame Style Mb Picture MessageFault : Type 0} (pictures : Pictures Sty
           let far : m + rules.slots ≤ s.sent = same_rest_far rules.slots m s.sent pos same (omega arith) in
           omega arith)
 
-      newest : t.packets ≡ packets_of encoding rules (run.coded ++ x ∷ []) (length run.coded)
+      newest : t.packets ≡ packets_at encoding rules (run.coded ++ x ∷ []) (length run.coded)
       newest =
           after.packets
           ∙ ap (λ (n : ℕ). encoding.packets n s.sequence (header_of rules n x) x.slices) keeps.sent
@@ -298,22 +298,23 @@ module _ {Frame Style Mb Picture MessageFault : Type 0} (pictures : Pictures Sty
           x.slices
           ∙ sym (packets_newest run.coded x)
 
-      packets : t.packets ≡ packets_of encoding rules (run.coded ++ x ∷ []) (length (run.coded ++ x ∷ []) - 1)
-      packets = newest ∙ ap (packets_of encoding rules (run.coded ++ x ∷ [])) (let e : length run.coded
+      packets : t.packets ≡ packets_at encoding rules (run.coded ++ x ∷ []) (length (run.coded ++ x ∷ []) - 1)
+      packets = newest ∙ ap (packets_at encoding rules (run.coded ++ x ∷ [])) (let e : length run.coded
           ≡ length (run.coded ++ x ∷ []) - 1 = omega (arith, longer) in e)
 
       size_of : ℕ → ℕ
-      size_of m = bytes_in (packets_of encoding rules (run.coded ++ x ∷ []) m)
+      size_of m = bytes_together (packets_at encoding rules (run.coded ++ x ∷ []) m)
 
       sizes_before : last_sizes encoding rules run.coded ≡ map size_of (last_numbers (length run.coded))
       sizes_before = map_same _ size_of (length run.coded - 16) (length run.coded - (length run.coded - 16))
-          (λ i low high. ap bytes_in (sym (packets_earlier run.coded x i (omega arith))))
+          (λ i low high. ap bytes_together (sym (packets_earlier run.coded x i (omega arith))))
 
       sizes : t.sizes ≡ last_sizes encoding rules (run.coded ++ x ∷ [])
       sizes =
           after.sizes
-          ∙ ap (λ (k : List ℕ). with_size k (bytes_in t.packets)) (keeps.sizes ∙ sizes_before)
-          ∙ ap (λ (ps : List (List ℕ)). with_size (map size_of (last_numbers (length run.coded))) (bytes_in ps)) newest
+          ∙ ap (λ (k : List ℕ). with_size k (bytes_together t.packets)) (keeps.sizes ∙ sizes_before)
+          ∙ ap (λ (ps : List (List ℕ)). with_size (map size_of (last_numbers (length run.coded))) (bytes_together ps))
+          newest
           ∙ sym (last_more size_of (length run.coded))
           ∙ ap (λ (n : ℕ). map size_of (last_numbers n)) (sym longer)
 

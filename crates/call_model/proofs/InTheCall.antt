@@ -5,7 +5,7 @@ use Rattle.std.specs.Option.{option_map}
 use Rattle.std.proofs.lemmas.Option.{slice_get-map}
 use Rattle.call_model.specs.Coding.{Rules, Coding}
 use Rattle.call_model.specs.IdealCall.{Event, Send, Deliver, Play, Back, NumberedMessage, Call, MayHappen, ideal, AllMayHappen, encoded}
-use Rattle.call_model.specs.Sending.{packets_of}
+use Rattle.call_model.specs.Sending.{packets_at}
 use Rattle.call_model.specs.Receiving.{TakenSlice}
 use Rattle.call_model.specs.JoinedRun.{SaidMessage, Joined, MayHappenBoth, AllMayHappenBoth, joined, new_receiver}
 use Rattle.call_model.specs.TwoStores.{told_of}
@@ -28,11 +28,11 @@ module _ {Frame Style Mb Picture Fault MessageFault : Type 0}
         is = ap (λ (w : Joined Style Mb Picture). w.receiver) f.ends;
         good = f.good;
       } in
-      let same : slice_get (packets_of coding.encoding rules c.coded n) j
+      let same : slice_get (packets_at coding.encoding rules c.coded n) j
       ≡ Some bytes = subst (λ (w : Joined Style Mb Picture). slice_get
-      (packets_of coding.encoding rules w.sender.coded n) j ≡ Some bytes) f.ends packet in
+      (packets_at coding.encoding rules w.sender.coded n) j ≡ Some bytes) f.ends packet in
       answers_at coding.decoding rules lawful.decodes ruled (encoded coding rules pace frames)
-      (packets_of coding.encoding rules) (length frames) c _ n j bytes at now
+      (packets_at coding.encoding rules) (length frames) c _ n j bytes at now
       (all_sound coding rules lawful ruled pace frames range (Deliver n j ∷ past)).0 same
 
   both_near : (frames : List Frame) (c : Call Style Mb Picture) (ts : List (TakenSlice Style Mb)) (e : Event)

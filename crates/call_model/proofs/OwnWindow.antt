@@ -4,9 +4,9 @@ use Rattle.call_model.specs.Coding.{Rules, window, Message, Ack, Nack, Header, D
 use Rattle.call_model.specs.CodedPictures.{Coded}
 use Rattle.call_model.specs.IdealCall.{Event, Send, Deliver, Play, Back, NumberedMessage, Got, Lost, Call, Source, encoded}
 use Rattle.call_model.specs.Lawful.{IsPace, IsInPeriod, IsDecoding, IsCoding, IsRules}
-use Rattle.call_model.specs.OwnWindow.{with_own, IsWideEnough, SmallerLead, GreaterDifference, AllSoundToSender, SoundToSenderIsSound, AnySenderIsFollowed, SteeredIsSoundToOwn, SteeredIsFollowedByOwn, EncoderIsFollowedByOwn, own_call}
-use Rattle.call_model.specs.Sending.{nearest_below, nearest, called_complete, made_known, header_of, packets_of, message_flags}
-use Rattle.call_model.specs.Sound.{Packets, IsSoundPicture, IsPacket, IsSoundEvent, IsUnderstood}
+use Rattle.call_model.specs.OwnWindow.{with_own_window, IsWideEnough, SmallerLead, GreaterDifference, AllSoundToSender, SoundToSenderIsSound, AnySenderIsFollowed, SteeredIsSoundToOwn, SteeredIsFollowedByOwn, EncoderIsFollowedByOwn, own_call}
+use Rattle.call_model.specs.Sending.{nearest_below, nearest, called_complete, made_known, header_of, packets_at, message_flags}
+use Rattle.call_model.specs.Sound.{Packets, IsSoundPicture, IsPacketOfSlice, IsSoundEvent, IsUnderstood}
 use Rattle.call_model.specs.Steering.{AreQuants, steered}
 use Rattle.call_model.specs.TwoStores.{travelling}
 use Rattle.call_model.proofs.AnySender.{any_sound_sender}
@@ -41,7 +41,7 @@ wide_by_difference rules slots lead small greater = record {
 
 module _ (rules : Rules) (slots lead : ℕ) where
   abbrev own : Rules
-  own = with_own rules slots lead
+  own = with_own_window rules slots lead
 
   own_rules : IsRules rules → IsWideEnough rules slots lead → IsRules own
   own_rules ruled wide = record {
@@ -89,7 +89,7 @@ module _ (rules : Rules) (slots lead : ℕ) where
     }
 
     own_packet : (packets : List (List ℕ)) (n j : ℕ) (x : Coded Style Mb Picture)
-        → IsPacket decoding rules packets n j x → IsPacket decoding own packets n j x
+        → IsPacketOfSlice decoding rules packets n j x → IsPacketOfSlice decoding own packets n j x
     own_packet packets n j x is = record {
       read_as = λ slice at_j.
           let got = is.read_as slice at_j in (
@@ -143,35 +143,35 @@ module _ {Frame Style Mb Picture Fault MessageFault : Type 0}
   steered_sound : (quant : Call Style Mb Picture → ℕ) (may : Call Style Mb Picture → ℕ
       → Bool) (frames : List Frame) (past : List Event) → AreQuants quant
       → AllSoundToSender coding.decoding rules slots lead (steered coding rules quant may frames)
-      (packets_of coding.encoding rules) past
+      (packets_at coding.encoding rules) past
   steered_sound quant may frames [] range = tt
   steered_sound quant may frames (e ∷ past) range = (
-    steering.sound_event coding rules lawful ruled (with_own rules slots lead) quant may frames range past e,
+    steering.sound_event coding rules lawful ruled (with_own_window rules slots lead) quant may frames range past e,
     steered_sound quant may frames past range,
   )
 
   encoder_sound : (pace : List ℕ → ℕ) (frames : List Frame) (past : List Event) → IsPace pace
       → AllSoundToSender coding.decoding rules slots lead (encoded coding rules pace frames)
-      (packets_of coding.encoding rules) past
+      (packets_at coding.encoding rules) past
   encoder_sound pace frames [] range = tt
   encoder_sound pace frames (e ∷ past) range = (
-    capturing.sound_event coding rules lawful ruled (with_own rules slots lead) pace frames range past e,
+    capturing.sound_event coding rules lawful ruled (with_own_window rules slots lead) pace frames range past e,
     encoder_sound pace frames past range,
   )
 
   pub steered_is_sound_to_own : SteeredIsSoundToOwn coding rules slots lead
   steered_is_sound_to_own quant may frames past range =
       own_sound rules slots lead coding.decoding wide (steered coding rules quant may frames)
-      (packets_of coding.encoding rules) past (steered_sound quant may frames past range)
+      (packets_at coding.encoding rules) past (steered_sound quant may frames past range)
 
   pub steered_is_followed_by_own : SteeredIsFollowedByOwn coding rules slots lead
   steered_is_followed_by_own quant may frames past range near =
       any_is_followed rules slots lead coding.decoding wide lawful.decodes ruled (steered coding rules quant may frames)
-      (packets_of coding.encoding rules) (length frames) past near
+      (packets_at coding.encoding rules) (length frames) past near
       (steered_sound quant may frames past range)
 
   pub encoder_is_followed_by_own : EncoderIsFollowedByOwn coding rules slots lead
   encoder_is_followed_by_own pace frames past range near =
       any_is_followed rules slots lead coding.decoding wide lawful.decodes ruled (encoded coding rules pace frames)
-      (packets_of coding.encoding rules) (length frames) past near
+      (packets_at coding.encoding rules) (length frames) past near
       (encoder_sound pace frames past range)

@@ -8,7 +8,7 @@ use Rattle.std.proofs.Math.Nat.{mod-lt}
 use Rattle.call_model.specs.Numbers.{greatest, flags_of}
 use Rattle.call_model.specs.Coding.{Rules, Header, Piece, Decoding, mixed, same_header}
 use Rattle.call_model.specs.Receiving.{ReceiverRun, TakenSlice, has_taken, has_any, is_complete, header_fits, decoded, answer, keep_taken, taken_after, piece_number, complete_flags, offer, played_mark, played_picture, played_message, ReceiverEntry, Packet, PlayNext, receiver_run}
-use Rattle.call_model.specs.Store.{slot_of, is_kept}
+use Rattle.call_model.specs.Store.{store_slot, is_kept}
 use Rattle.call_model.specs.Stands.{Receiver, ReceiverStands, IsOpenIn, fits_kept, is_in_slot}
 use Rattle.call_model.specs.ReceiverStanding.{mark_by_kept, picture_by_kept, offer_by_kept, message_by_kept, PlayByKept, NewReceiverStands, PlayStands, CompleteStays}
 use Rattle.call_model.specs.Lawful.{IsDecoding, IsRules}
@@ -246,13 +246,13 @@ module _ {Style Mb Picture Fault : Type 0} (decoding : Decoding Style Mb Picture
 
   -- the slots after a play are those before it
   slot_play : (entries : List ReceiverEntry) (screen : Picture) (rest : ℕ)
-      → slot_of decoding rules (record (receiver_run decoding rules entries) {
+      → store_slot decoding rules (record (receiver_run decoding rules entries) {
         played =
             (receiver_run decoding rules entries).played + 1;
         screen = screen;
       }) rest
-      ≡ slot_of decoding rules (receiver_run decoding rules entries) rest
-  unfolding slot_of
+      ≡ store_slot decoding rules (receiver_run decoding rules entries) rest
+  unfolding store_slot
   slot_play entries screen rest =
       let run = receiver_run decoding rules entries in
       let e : run.played + 1 + rules.lead + 1 ≡ 1 + (run.played + rules.lead + 1) = omega arith in
@@ -318,8 +318,8 @@ module _ {Style Mb Picture Fault : Type 0} (decoding : Decoding Style Mb Picture
   nothing_complete : (m : ℕ) → is_complete {Style = Style} {Mb = Mb} rules.mbs [] m ≡ false
   nothing_complete m = false_from_ne_true _ (λ whole. both_ways _ (nothing_taken m 0) (complete_first [] m whole))
 
-  nothing_kept : (rest : ℕ) → slot_of decoding rules (receiver_run decoding rules []) rest ≡ None
-  unfolding slot_of
+  nothing_kept : (rest : ℕ) → store_slot decoding rules (receiver_run decoding rules []) rest ≡ None
+  unfolding store_slot
   nothing_kept rest = greatest_none _ (0 + rules.lead + 1) (λ k lt. and_left _ _ (nothing_complete k))
 
   all_fit : (n : ℕ) (h : Header Style) → header_fits {Style = Style} {Mb = Mb} decoding rules [] n h ≡ true

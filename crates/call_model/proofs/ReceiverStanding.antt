@@ -7,10 +7,10 @@ use Rattle.std.proofs.lemmas.Bool.{cases_eq, cases_lt, cases_Bool, and_parts, an
 use Rattle.std.proofs.Math.Nat.{mod-lt}
 use Rattle.call_model.specs.Coding.{Rules, window, has_mb, Header, Piece, Message, Decoding, mb_at, same_header, same_reference}
 use Rattle.call_model.specs.Sending.{nearest, nearest_below}
-use Rattle.call_model.specs.Receiving.{ReceiverRun, TakenSlice, Heard, OtherClock, Late, Early, HeaderDiffers, MissingReference, Repeat, Overlap, Completed, Taken, has_taken, is_complete, header_fits, has_reference, reference_in, all_in, none_in, decoded, decoded_sample, answer, heard, keep_taken, taken_after, piece_number, ReceiverEntry, receiver_run}
-use Rattle.call_model.specs.Store.{slot_of}
+use Rattle.call_model.specs.Receiving.{ReceiverRun, TakenSlice, Heard, OtherClock, Late, Early, HeaderDiffers, MissingReference, Repeat, Overlap, Completed, Taken, has_taken, is_complete, header_fits, has_reference, header_reference, all_in, none_in, decoded, decoded_sample, answer, heard, keep_taken, taken_after, piece_number, ReceiverEntry, receiver_run}
+use Rattle.call_model.specs.Store.{store_slot}
 use Rattle.call_model.specs.Stands.{Receiver, ReceiverKeeps, ReceiverStands, IsOpenIn, fits_kept, judged}
-use Rattle.call_model.specs.ReceiverStanding.{is_taking, heard_by_kept, reference_picture, completes, IsInRow, HeardByKept, OtherPacketStands, SliceStands}
+use Rattle.call_model.specs.ReceiverStanding.{is_taking, heard_by_kept, reference_picture, completes, IsInLead, HeardByKept, OtherPacketStands, SliceStands}
 use Rattle.call_model.specs.Lawful.{IsDecoding, IsRules}
 use Rattle.call_model.proofs.ListLemmas.{all_below_at, all_below_same, greatest_same, greatest_passes}
 use Rattle.call_model.proofs.Answering.{answer_late, answer_early}
@@ -255,7 +255,7 @@ module _ {Style Mb Picture Fault : Type 0} (decoding : Decoding Style Mb Picture
       → has_reference decoding rules (receiver_run decoding rules entries).taken n h ≡ true
       → reference_picture decoding rules r n h
       ≡ option_map (λ m. decoded decoding rules (receiver_run decoding rules entries).taken m)
-      (reference_in decoding rules n h)
+      (header_reference decoding rules n h)
   unfolding has_reference
   reference_there r entries n h stands low there = by_header h.reference there
     where
@@ -285,15 +285,15 @@ module _ {Style Mb Picture Fault : Type 0} (decoding : Decoding Style Mb Picture
 
   slot_same : (run : ReceiverRun Style Mb Picture) (taken : List (TakenSlice Style Mb)) (rest : ℕ)
       → ((m : ℕ) → is_complete rules.mbs taken m ≡ is_complete rules.mbs run.taken m)
-      → slot_of decoding rules (record run { taken = taken }) rest ≡ slot_of decoding rules run rest
-  unfolding slot_of
+      → store_slot decoding rules (record run { taken = taken }) rest ≡ store_slot decoding rules run rest
+  unfolding store_slot
   slot_same run taken rest same = greatest_same _ _ (run.played + rules.lead + 1)
       (λ m lt. ap (λ (b : Bool). b && eqb (m % rules.slots) rest) (same m))
 
   -- the number in a slot has this rest, and is complete
-  in_slot : (run : ReceiverRun Style Mb Picture) (rest m : ℕ) → slot_of decoding rules run rest ≡ Some m
+  in_slot : (run : ReceiverRun Style Mb Picture) (rest m : ℕ) → store_slot decoding rules run rest ≡ Some m
       → (is_complete rules.mbs run.taken m ≡ true) × (m % rules.slots ≡ rest)
-  unfolding slot_of
+  unfolding store_slot
   in_slot run rest m e =
       let passes = greatest_passes (λ i. is_complete rules.mbs run.taken i && eqb (i % rules.slots) rest)
       (run.played + rules.lead + 1) m e in
@@ -324,7 +324,7 @@ module _ {Style Mb Picture Fault : Type 0} (decoding : Decoding Style Mb Picture
       one : TakenSlice Style Mb
       one = record { number = n; piece = piece }
 
-      row : (m : ℕ) → IsOpenIn decoding rules run m → IsInRow decoding rules r m
+      row : (m : ℕ) → IsOpenIn decoding rules run m → IsInLead decoding rules r m
       row m opened = let played = stands.played in (omega (arith, opened.0, played), omega (arith, opened.1, played))
 
       opened_n : IsOpenIn decoding rules run n
@@ -369,7 +369,7 @@ module _ {Style Mb Picture Fault : Type 0} (decoding : Decoding Style Mb Picture
           ≡ decoded_sample decoding rules (record { number = n; piece = piece } ∷ run.taken) n s
       drawn s lt got true has =
           let reference : reference_picture decoding rules r n piece.header
-          ≡ option_map (λ m. decoded decoding rules run.taken m) (reference_in decoding rules n piece.header) =
+          ≡ option_map (λ m. decoded decoding rules run.taken m) (header_reference decoding rules n piece.header) =
           reference_there r entries n piece.header stands as_taken.low as_taken.there in
           after.drawn s lt has ∙ ap (λ (o : Option Picture). decoding.pictures.reconstructed_sample piece.header.style o
           (mb_at decoding.pictures.skip piece.slice (decoding.pictures.owner s)) s) reference
@@ -409,14 +409,15 @@ module _ {Style Mb Picture Fault : Type 0} (decoding : Decoding Style Mb Picture
 
       -- where the picture becomes complete
       when_whole : is_complete rules.mbs (one ∷ run.taken) n ≡ true
-          → (slot_of decoding rules next_run (n % rules.slots) ≡ Some n) × ((rest : ℕ) → (rest ≡ n % rules.slots → ⊥)
-          → slot_of decoding rules next_run rest ≡ slot_of decoding rules run rest)
+          → (store_slot decoding rules next_run (n % rules.slots) ≡ Some n) × ((rest : ℕ) → (rest ≡ n % rules.slots → ⊥)
+          → store_slot decoding rules next_run rest ≡ store_slot decoding rules run rest)
       when_whole whole = new_one_takes_its_slot decoding rules ruled entries n (one ∷ run.taken) as_taken.low
           as_taken.high whole (λ m lt differ. complete_other run.taken n m piece differ)
 
       -- where it does not
-      when_part : is_complete rules.mbs (one ∷ run.taken) n ≡ false → (rest : ℕ) → slot_of decoding rules next_run rest
-          ≡ slot_of decoding rules run rest
+      when_part : is_complete rules.mbs (one ∷ run.taken) n ≡ false → (rest : ℕ)
+          → store_slot decoding rules next_run rest
+          ≡ store_slot decoding rules run rest
       when_part part rest = slot_same run (one ∷ run.taken) rest same_complete
         where
           same_complete : (m : ℕ) → is_complete rules.mbs (record { number = n; piece = piece } ∷ run.taken) m
@@ -427,15 +428,15 @@ module _ {Style Mb Picture Fault : Type 0} (decoding : Decoding Style Mb Picture
             | inr differ ↦ complete_other run.taken n m piece differ
           ]
 
-      slot_is : (rest : ℕ) → rest < rules.slots → t.kept rest ≡ slot_of decoding rules next_run rest
+      slot_is : (rest : ℕ) → rest < rules.slots → t.kept rest ≡ store_slot decoding rules next_run rest
       slot_is rest lt = elim (cases_Bool (is_complete rules.mbs (one ∷ run.taken) n)) [
         | inl whole ↦ elim (cases_eq rest (n % rules.slots)) [
-          | inl same ↦ subst (λ (i : ℕ). t.kept i ≡ slot_of decoding rules next_run i) (sym same)
+          | inl same ↦ subst (λ (i : ℕ). t.kept i ≡ store_slot decoding rules next_run i) (sym same)
               ((after.whole (whole_is ∙ whole)).0 ∙ sym (when_whole whole).0)
           | inr differ ↦ (after.slots rest lt differ).0 ∙ stands.slots rest lt ∙ sym ((when_whole whole).1 rest differ)
         ]
         | inr part ↦ elim (cases_eq rest (n % rules.slots)) [
-          | inl same ↦ subst (λ (i : ℕ). t.kept i ≡ slot_of decoding rules next_run i) (sym same)
+          | inl same ↦ subst (λ (i : ℕ). t.kept i ≡ store_slot decoding rules next_run i) (sym same)
               ((after.part (whole_is ∙ part)).0 ∙ stands.slots (n % rules.slots) (mod-lt n positive)
               ∙ sym (when_part part (n % rules.slots)))
           | inr differ ↦ (after.slots rest lt differ).0 ∙ stands.slots rest lt ∙ sym (when_part part rest)
@@ -448,7 +449,7 @@ module _ {Style Mb Picture Fault : Type 0} (decoding : Decoding Style Mb Picture
       decoded_other m differ = lawful.pictures.picture_same _ _
           (λ s lt. sym (img_other decoding rules lawful ruled one run.taken m s (differs m differ)))
 
-      old_picture : (rest m : ℕ) → rest < rules.slots → slot_of decoding rules run rest ≡ Some m
+      old_picture : (rest m : ℕ) → rest < rules.slots → store_slot decoding rules run rest ≡ Some m
           → t.picture rest ≡ r.picture rest → t.picture rest ≡ decoded decoding rules (one ∷ run.taken) m
       old_picture rest m lt at same =
           let differ : m ≡ n → ⊥ = λ (e : m ≡ n). both_ways _ not_before
@@ -462,13 +463,13 @@ module _ {Style Mb Picture Fault : Type 0} (decoding : Decoding Style Mb Picture
           ∙ lawful.pictures.picture_same _ _
           (λ s lt. work_is n s opened_n lt (taken_of (one ∷ run.taken) n (decoding.pictures.owner s) whole lt))
 
-      picture_is : (rest m : ℕ) → rest < rules.slots → slot_of decoding rules next_run rest ≡ Some m
+      picture_is : (rest m : ℕ) → rest < rules.slots → store_slot decoding rules next_run rest ≡ Some m
           → t.picture rest ≡ decoded decoding rules (one ∷ run.taken) m
       picture_is rest m lt at = elim (cases_Bool (is_complete rules.mbs (one ∷ run.taken) n)) [
         | inl whole ↦ elim (cases_eq rest (n % rules.slots)) [
           | inl same ↦
               let is : n ≡ m = let e : Some n ≡ Some m = sym (when_whole whole).0
-              ∙ subst (λ (i : ℕ). slot_of decoding rules next_run i ≡ Some m) same at in cc in
+              ∙ subst (λ (i : ℕ). store_slot decoding rules next_run i ≡ Some m) same at in cc in
               ap t.picture same ∙ new_picture whole ∙ ap (decoded decoding rules (one ∷ run.taken)) is
           | inr differ ↦ old_picture rest m lt (sym ((when_whole whole).1 rest differ)
               ∙ at) (after.slots rest lt differ).1

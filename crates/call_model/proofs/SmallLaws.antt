@@ -7,7 +7,7 @@ use Rattle.std.proofs.lemmas.Option.{slice_get-map}
 use Rattle.call_model.specs.Coding.{Rules, Slice, has_mb, Header, Piece, Message, Ack, Nack}
 use Rattle.call_model.specs.SmallCoding.{SmallMb, Same, Value, SmallStyle, SmallFault, Unread, small_sample, option_word, word_option, flag_words, word_flags, small_packet, small_header, small_piece, small_read, small_message, small_read_message, small_pictures, small_decoding, small}
 use Rattle.call_model.specs.IdealCall.{encoded}
-use Rattle.call_model.specs.Worked.{Scene, IsScene, steady, by_sizes, ScenesAgree, ScenesAreLawful, window_scene, offer_scene, far_offer_scene, chain_scene, late_scene, shuffled_scene, patched_scene, wrap_scene, newer_offer_scene, flags_scene, wide_window_scene, wide_late_scene, paced_scene}
+use Rattle.call_model.specs.Worked.{Scene, IsScene, always_8, by_sizes, ScenesAgree, ScenesAreLawful, window_scene, offer_scene, far_offer_scene, chain_scene, late_scene, shuffled_scene, patched_scene, wrap_scene, newer_offer_scene, flags_scene, wide_window_scene, wide_late_scene, paced_scene}
 use Rattle.std.specs.List.{sum}
 use Rattle.std.proofs.Math.Nat.{mod-lt}
 use Rattle.call_model.proofs.Refusing.{passed_where_near}
@@ -181,14 +181,14 @@ scenes_agree scene fits passed =
     (two_stores small scene.rules (small_lawful scene.rules fits.two) fits.rules scene.pace scene.frames fits.pace
     (reverse scene.events) near).agree
 
-steady_pace : IsPace steady
+steady_pace : IsPace always_8
 steady_pace sizes few = (omega arith, omega arith)
 
 small_rules : (rules : Rules) → rules.mbs ≡ 2 → rules.lead + 2 ≤ rules.slots → rules.slots ≤ rules.half → IsRules rules
 small_rules rules two lead slots = record { some_mbs = omega (arith, two); lead_small = lead; slots_small = slots }
 
 steady_scene : (scene : Scene) → scene.rules.mbs ≡ 2 → scene.rules.lead + 2 ≤ scene.rules.slots
-    → scene.rules.slots ≤ scene.rules.half → scene.pace ≡ steady → IsScene scene
+    → scene.rules.slots ≤ scene.rules.half → scene.pace ≡ always_8 → IsScene scene
 steady_scene scene two lead slots pace = record {
   two = two;
   rules = small_rules scene.rules two lead slots;

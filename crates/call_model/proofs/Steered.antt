@@ -7,7 +7,7 @@ use Rattle.std.proofs.lemmas.List.{append-nil}
 use Rattle.call_model.specs.Coding.{Rules, Coding, pictures_of}
 use Rattle.call_model.specs.CodedPictures.{Coded, capture, reference_for, is_among, depth_at}
 use Rattle.call_model.specs.IdealCall.{Event, Send, Deliver, Play, Back, Call, call_from}
-use Rattle.call_model.specs.Sending.{packets_of}
+use Rattle.call_model.specs.Sending.{packets_at}
 use Rattle.call_model.specs.Sound.{IsSoundPicture, IsSoundEvent}
 use Rattle.call_model.specs.Steering.{AreQuants, steered, SteeredIsSound, SteeredIsFollowed}
 use Rattle.call_model.specs.Lawful.{IsCoding, IsRules}
@@ -66,7 +66,7 @@ module _ {Frame Style Mb Picture Fault MessageFault : Type 0}
         (record c { known = filter (may c) c.known }) (range c) all)
 
     pub sound_event : (past : List Event) (e : Event)
-        → IsSoundEvent coding.decoding rules (steered coding rules quant may frames) (packets_of coding.encoding rules)
+        → IsSoundEvent coding.decoding rules (steered coding rules quant may frames) (packets_at coding.encoding rules)
         (call past) e
     sound_event past Send = λ x is. go x (slice_get frames (length (call past).coded)) is
       where
@@ -92,5 +92,5 @@ module _ {Frame Style Mb Picture Fault MessageFault : Type 0}
   pub steered_is_followed : SteeredIsFollowed coding rules
   steered_is_followed quant may frames past range near =
       any_sound_sender coding.decoding rules lawful.decodes ruled (steered coding rules quant may frames)
-      (packets_of coding.encoding rules) (length frames) past near
+      (packets_at coding.encoding rules) (length frames) past near
       (steered_is_sound quant may frames past range)

@@ -6,7 +6,7 @@ use Rattle.std.specs.List.{list_all}
 use Rattle.std.proofs.lemmas.Bool.{cases_eq, cases_Bool, and_parts, and_right, or_cases, both_ways, false≢true, false_from_ne_true, eq-eqb}
 use Rattle.call_model.specs.Coding.{Rules, window, has_mb, Header, Piece, Decoding, mb_at, same_header}
 use Rattle.call_model.specs.Sending.{nearest, nearest_below}
-use Rattle.call_model.specs.Receiving.{ReceiverRun, TakenSlice, OtherClock, Late, has_taken, is_complete, header_fits, has_reference, reference_in, decoded, decoded_sample, heard, taken_after, ReceiverEntry, Packet, PlayNext, receiver_run}
+use Rattle.call_model.specs.Receiving.{ReceiverRun, TakenSlice, OtherClock, Late, has_taken, is_complete, header_fits, has_reference, header_reference, decoded, decoded_sample, heard, taken_after, ReceiverEntry, Packet, PlayNext, receiver_run}
 use Rattle.call_model.specs.ReceiverStanding.{is_taking, OneHeader, IsDecodedBy, DecodedInTheEnd}
 use Rattle.call_model.specs.Lawful.{IsDecoding, IsRules}
 use Rattle.call_model.proofs.NumberLemmas.{nearest_below_less}
@@ -56,7 +56,7 @@ module _ {Style Mb Picture Fault : Type 0} (decoding : Decoding Style Mb Picture
     pub headers : (i j : ℕ) (t u : TakenSlice Style Mb) → slice_get ts i ≡ Some t → slice_get ts j ≡ Some u
         → t.number ≡ u.number → t.piece.header ≡ u.piece.header
     pub references : (i m : ℕ) (t : TakenSlice Style Mb) → slice_get ts i ≡ Some t
-        → reference_in decoding rules t.number t.piece.header ≡ Some m → is_complete rules.mbs ts m ≡ true
+        → header_reference decoding rules t.number t.piece.header ≡ Some m → is_complete rules.mbs ts m ≡ true
     pub samples : (n s : ℕ) → decoding.pictures.owner s < rules.mbs → has_taken ts n (decoding.pictures.owner s) ≡ true
         → IsDecodedBy decoding rules ts n s
 
@@ -82,7 +82,7 @@ module _ {Style Mb Picture Fault : Type 0} (decoding : Decoding Style Mb Picture
 
   -- the reference that is there is complete, and lies below
   reference_complete : (ts : List (TakenSlice Style Mb)) (n m : ℕ) (h : Header Style)
-      → has_reference decoding rules ts n h ≡ true → reference_in decoding rules n h ≡ Some m
+      → has_reference decoding rules ts n h ≡ true → header_reference decoding rules n h ≡ Some m
       → (is_complete rules.mbs ts m ≡ true) × (m < n)
   unfolding has_reference
   reference_complete ts n m h there named = by_header h.reference there named
@@ -136,12 +136,12 @@ module _ {Style Mb Picture Fault : Type 0} (decoding : Decoding Style Mb Picture
       headers (suc i) (suc j) t u at_i at_j same = tidy.headers i j t u at_i at_j same
 
       references : (i m : ℕ) (t : TakenSlice Style Mb) → slice_get (one ∷ run.taken) i ≡ Some t
-          → reference_in decoding rules t.number t.piece.header ≡ Some m → is_complete rules.mbs (one ∷ run.taken) m
+          → header_reference decoding rules t.number t.piece.header ≡ Some m → is_complete rules.mbs (one ∷ run.taken) m
           ≡ true
       references zero m t at named =
           let e : one ≡ t = cc in
-          let mine : reference_in decoding rules n piece.header
-          ≡ Some m = ap (λ (x : TakenSlice Style Mb). reference_in decoding rules x.number x.piece.header) e
+          let mine : header_reference decoding rules n piece.header
+          ≡ Some m = ap (λ (x : TakenSlice Style Mb). header_reference decoding rules x.number x.piece.header) e
           ∙ named in
           complete_more decoding rules lawful ruled one run.taken m
           (reference_complete run.taken n m piece.header taken.there mine).0
@@ -171,9 +171,9 @@ module _ {Style Mb Picture Fault : Type 0} (decoding : Decoding Style Mb Picture
         has = by.has;
         value = same ∙ by.value ∙ ap (λ (o : Option Picture). decoding.pictures.reconstructed_sample
             by.slice.piece.header.style o (mb_at decoding.pictures.skip by.slice.piece.slice
-            (decoding.pictures.owner s)) s) (same_reference (reference_in decoding rules m by.slice.piece.header)
+            (decoding.pictures.owner s)) s) (same_reference (header_reference decoding rules m by.slice.piece.header)
             (λ k named. tidy.references by.place k by.slice by.is_taken
-            (ap (λ (i : ℕ). reference_in decoding rules i by.slice.piece.header) by.number ∙ named)));
+            (ap (λ (i : ℕ). header_reference decoding rules i by.slice.piece.header) by.number ∙ named)));
       }
 
       newest : (s : ℕ) → has_mb piece.slice (decoding.pictures.owner s) ≡ true
@@ -186,13 +186,13 @@ module _ {Style Mb Picture Fault : Type 0} (decoding : Decoding Style Mb Picture
         has = has;
         value = here ∙ ap (λ (o : Option Picture). decoding.pictures.reconstructed_sample piece.header.style o
             (mb_at decoding.pictures.skip piece.slice (decoding.pictures.owner s)) s)
-            (same_reference (reference_in decoding rules n piece.header)
+            (same_reference (header_reference decoding rules n piece.header)
             (λ m named. (reference_complete run.taken n m piece.header taken.there named).0));
       }
         where
           here : decoded_sample decoding rules (record { number = n; piece = piece } ∷ run.taken) n s
               ≡ decoding.pictures.reconstructed_sample piece.header.style
-              (option_map (λ m. decoded decoding rules run.taken m) (reference_in decoding rules n piece.header))
+              (option_map (λ m. decoded decoding rules run.taken m) (header_reference decoding rules n piece.header))
               (mb_at decoding.pictures.skip piece.slice (decoding.pictures.owner s)) s
           here = rw (eq-eqb n n refl, has) refl
 

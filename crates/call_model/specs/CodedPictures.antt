@@ -3,7 +3,7 @@ use Rattle.std.specs.Prelude.{ℕ, ◌+◌, Bool, ◌&&◌, nat_lt, nat_le, ◌=
 use Rattle.std.specs.Option.{option_map, option_map_or}
 use Rattle.std.specs.List.{list_any}
 use Rattle.call_model.specs.Numbers.{greatest}
-use Rattle.call_model.specs.Coding.{Rules, window, Slice, Pictures, Encoding, reconstruction}
+use Rattle.call_model.specs.Coding.{Rules, window, Slice, Pictures, Encoding, decoded_picture}
 
 -- A coded picture. Its depth is the length of its chain of references: 0 where it is coded intra.
 -- Its slices are those of its packets, and its picture is what decoding gives.
@@ -45,5 +45,5 @@ module _ {Frame Style Mb Picture MessageFault : Type 0} (pictures : Pictures Sty
         depth = depth;
         style = style;
         slices = encoding.cut style mbs;
-        picture = reconstruction pictures style before mbs;
+        picture = decoded_picture pictures style before mbs;
       }

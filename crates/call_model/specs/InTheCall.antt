@@ -2,7 +2,7 @@
 use Rattle.std.specs.Prelude.{◌≡◌, ◌↔◌, ℕ, List, length, slice_get, Some}
 use Rattle.call_model.specs.Coding.{Rules, Coding}
 use Rattle.call_model.specs.IdealCall.{Event, Deliver, MayHappen, ideal, AllMayHappen}
-use Rattle.call_model.specs.Sending.{packets_of}
+use Rattle.call_model.specs.Sending.{packets_at}
 use Rattle.call_model.specs.Receiving.{heard}
 use Rattle.call_model.specs.JoinedRun.{MayHappenBoth, AllMayHappenBoth, joined, new_receiver}
 use Rattle.call_model.specs.Sound.{delivery_answer}
@@ -16,7 +16,7 @@ module _ {Frame Style Mb Picture Fault MessageFault : Type 0}
       let c = ideal coding rules pace frames past in
       let both = joined coding rules (new_receiver coding rules) pace frames past in
       IsPace pace → AllMayHappen coding rules pace frames past → MayHappen rules (length frames) c (Deliver n j)
-      → slice_get (packets_of coding.encoding rules both.sender.coded n) j ≡ Some bytes
+      → slice_get (packets_at coding.encoding rules both.sender.coded n) j ≡ Some bytes
       → heard coding.decoding rules both.receiver (coding.decoding.read bytes) ≡ delivery_answer rules c n j
 
   -- an event is near by the ideal call where it is near by what both ends have done

@@ -7,9 +7,9 @@ use Rattle.call_model.specs.Sending.{nearest_below}
 use Rattle.call_model.specs.Receiving.{piece_number, is_complete, played_shown, ReceiverEntry, Packet, PlayNext, receiver_run}
 
 -- the bytes are one of these
-abbrev pub IsIn : List ℕ → List (List ℕ) → Type 0
-IsIn bytes [] = ⊥
-IsIn bytes (x ∷ xs) = (bytes ≡ x) ⊎ IsIn bytes xs
+abbrev pub IsOneOf : List ℕ → List (List ℕ) → Type 0
+IsOneOf bytes [] = ⊥
+IsOneOf bytes (x ∷ xs) = (bytes ≡ x) ⊎ IsOneOf bytes xs
 
 -- how many pictures are played in a list of entries
 abbrev pub played_after : List ReceiverEntry → ℕ
@@ -18,9 +18,9 @@ played_after (Packet bytes ∷ past) = played_after past
 played_after (PlayNext ∷ past) = played_after past + 1
 
 -- the number is this one
-abbrev pub is_number : ℕ → Option ℕ → Bool
-is_number n None = false
-is_number n (Some m) = m == n
+abbrev pub is_this_number : ℕ → Option ℕ → Bool
+is_this_number n None = false
+is_this_number n (Some m) = m == n
 
 -- the slices are one, or have no macroblock in common
 abbrev pub SameOrApart : {Mb : Type 0} → Slice Mb → Slice Mb → Type 0
@@ -29,13 +29,13 @@ SameOrApart a b = (a ≡ b) ⊎ ((k : ℕ) → has_mb a k ≡ true → has_mb b 
 module _ {Style Mb Picture Fault : Type 0} (decoding : Decoding Style Mb Picture Fault) (rules : Rules) where
   -- the number of a packet's picture, where the packet comes after this many plays, has no fault
   -- and is of the call's picture clock
-  unfoldable pub number_at : ℕ → List ℕ → Option ℕ
-  number_at played bytes = option_map_or
+  unfoldable pub number_of_bytes : ℕ → List ℕ → Option ℕ
+  number_of_bytes played bytes = option_map_or
       (λ piece. piece_number rules played piece) (result_ok (decoding.read bytes)) None
 
   -- the packet is one of picture n
   unfoldable pub is_own : ℕ → ℕ → List ℕ → Bool
-  is_own n played bytes = is_number n (number_at played bytes)
+  is_own n played bytes = is_this_number n (number_of_bytes played bytes)
 
   -- the entries without the packets of n
   abbrev pub others : ℕ → List ReceiverEntry → List ReceiverEntry
@@ -80,15 +80,15 @@ module _ {Style Mb Picture Fault : Type 0} (decoding : Decoding Style Mb Picture
   pub record AreOfOne (n : ℕ)
       (header : Header Style) (reference : Option ℕ) (entries : List ReceiverEntry) : Type 0 where
     pub in_place : InPlace n reference entries
-    pub headers : (bytes : List ℕ) → IsIn bytes (own n entries) → HasPiece bytes (λ piece. piece.header ≡ header)
-    pub slices : (a b : List ℕ) → IsIn a (own n entries) → IsIn b (own n entries)
+    pub headers : (bytes : List ℕ) → IsOneOf bytes (own n entries) → HasPiece bytes (λ piece. piece.header ≡ header)
+    pub slices : (a b : List ℕ) → IsOneOf a (own n entries) → IsOneOf b (own n entries)
         → HasPiece a (λ p. HasPiece b (λ q. SameOrApart p.slice q.slice))
 
   -- the lists have the same entries in the same order apart from packets of n, and the same set of
   -- packets of n
   abbrev pub DifferInPacketsOf : ℕ → List ReceiverEntry → List ReceiverEntry → Type 0
   DifferInPacketsOf n a b =
-      (others n a ≡ others n b) × ((bytes : List ℕ) → IsIn bytes (own n a) ↔ IsIn bytes (own n b))
+      (others n a ≡ others n b) × ((bytes : List ℕ) → IsOneOf bytes (own n a) ↔ IsOneOf bytes (own n b))
 
   -- the reference of picture n is the number that its header names, where it names one
   abbrev pub IsNamed : ℕ → Header Style → Option ℕ → Type 0

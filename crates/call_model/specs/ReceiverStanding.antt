@@ -5,7 +5,7 @@ use Rattle.std.specs.Option.{option_map, option_map_or}
 use Rattle.call_model.specs.Numbers.{all_below, greatest, flags_of}
 use Rattle.call_model.specs.Coding.{Rules, has_mb, Header, Piece, Message, Mark, Exact, Patched, Held, Decoding, mb_at, mixed, grey}
 use Rattle.call_model.specs.Sending.{nearest}
-use Rattle.call_model.specs.Receiving.{Heard, Refused, OtherClock, Late, Early, Completed, Taken, nack, reference_in, is_complete, decoded, heard, played_mark, played_picture, played_message, ReceiverEntry, Packet, PlayNext, receiver_run, TakenSlice, has_taken, decoded_sample}
+use Rattle.call_model.specs.Receiving.{Heard, Refused, OtherClock, Late, Early, Completed, Taken, nack, header_reference, is_complete, decoded, heard, played_mark, played_picture, played_message, ReceiverEntry, Packet, PlayNext, receiver_run, TakenSlice, has_taken, decoded_sample}
 use Rattle.call_model.specs.Stands.{Receiver, ReceiverStands, is_in_slot, judged}
 
 -- the answer takes the slice
@@ -29,15 +29,16 @@ module _ {Style Mb Picture Fault : Type 0} (decoding : Decoding Style Mb Picture
 
   -- the picture of the reference that a header of picture n names, where its slot has it
   abbrev pub reference_picture : Receiver Style Picture → ℕ → Header Style → Option Picture
-  reference_picture r n header = option_map (λ m. r.picture (m % rules.slots)) (reference_in decoding rules n header)
+  reference_picture r n header = option_map (λ m. r.picture (m % rules.slots))
+      (header_reference decoding rules n header)
 
   -- with this slice all macroblocks of picture n are there
   abbrev pub completes : Receiver Style Picture → ℕ → Piece Style Mb → Bool
   completes r n piece = all_below rules.mbs (λ k. has_mb piece.slice k || r.has n k)
 
   -- a number of a row that is open
-  abbrev pub IsInRow : Receiver Style Picture → ℕ → Type 0
-  IsInRow r m = (r.played ≤ m) × (m ≤ r.played + rules.lead)
+  abbrev pub IsInLead : Receiver Style Picture → ℕ → Type 0
+  IsInLead r m = (r.played ≤ m) × (m ≤ r.played + rules.lead)
 
   -- What a slice of picture n leaves: in the row of n its header and its macroblocks, and in the work
   -- picture its samples, by the reference in its slot. Where it makes the picture complete, that
@@ -53,7 +54,7 @@ module _ {Style Mb Picture Fault : Type 0} (decoding : Decoding Style Mb Picture
         n piece.header) (mb_at decoding.pictures.skip piece.slice (decoding.pictures.owner s)) s
     pub left : (s : ℕ) → decoding.pictures.owner s < rules.mbs → has_mb piece.slice (decoding.pictures.owner s) ≡ false
         → decoding.pictures.sample (t.work n) s ≡ decoding.pictures.sample (r.work n) s
-    pub rows : (m : ℕ) → IsInRow r m → (m ≡ n → ⊥)
+    pub rows : (m : ℕ) → IsInLead r m → (m ≡ n → ⊥)
         → (t.header m ≡ r.header m) × ((k : ℕ) → k < rules.mbs → t.has m k ≡ r.has m k) × (t.work m ≡ r.work m)
     pub part : completes r n piece ≡ false
         → (t.kept (n % rules.slots) ≡ r.kept (n % rules.slots))
@@ -91,7 +92,7 @@ module _ {Style Mb Picture Fault : Type 0} (decoding : Decoding Style Mb Picture
     pub screen : t.screen ≡ picture_by_kept r
     pub new_header : t.header (r.played + rules.lead + 1) ≡ None
     pub new_has : (k : ℕ) → k < rules.mbs → t.has (r.played + rules.lead + 1) k ≡ false
-    pub rows : (m : ℕ) → IsInRow r m
+    pub rows : (m : ℕ) → IsInLead r m
         → (t.header m ≡ r.header m) × ((k : ℕ) → k < rules.mbs → t.has m k ≡ r.has m k) × (t.work m ≡ r.work m)
     pub slots : (rest : ℕ) → rest < rules.slots → (t.kept rest ≡ r.kept rest) × (t.picture rest ≡ r.picture rest)
 
@@ -163,7 +164,7 @@ module _ {Style Mb Picture Fault : Type 0} (decoding : Decoding Style Mb Picture
     pub has : has_mb slice.piece.slice (decoding.pictures.owner s) ≡ true
     pub value : decoded_sample decoding rules taken n s
         ≡ decoding.pictures.reconstructed_sample slice.piece.header.style
-        (option_map (λ m. decoded decoding rules taken m) (reference_in decoding rules n slice.piece.header))
+        (option_map (λ m. decoded decoding rules taken m) (header_reference decoding rules n slice.piece.header))
         (mb_at decoding.pictures.skip slice.piece.slice (decoding.pictures.owner s)) s
 
   -- each sample of a macroblock that was taken is so

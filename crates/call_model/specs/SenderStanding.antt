@@ -3,9 +3,9 @@
 use Rattle.std.specs.Prelude.{◌≡◌, ℕ, ◌+◌, ◌-◌, ◌%◌, ◌^◌, ◌<◌, ◌≤◌, Bool, true, false, ◌||◌, List, [], ◌∷◌, ◌++◌, length, drop, Option, is_some}
 use Rattle.std.specs.Option.{option_map, option_map_or}
 use Rattle.std.specs.Result.{result_ok}
-use Rattle.call_model.specs.Coding.{Rules, Pictures, Encoding, reconstruction}
+use Rattle.call_model.specs.Coding.{Rules, Pictures, Encoding, decoded_picture}
 use Rattle.call_model.specs.CodedPictures.{Coded, depth_at, is_among, reference_for}
-use Rattle.call_model.specs.Sending.{SenderEntry, Capture, Feedback, Reply, Noted, header_of, bytes_in, known_by_feedback, feedback_answer, next_coded, sender_run}
+use Rattle.call_model.specs.Sending.{SenderEntry, Capture, Feedback, Reply, Noted, header_of, bytes_together, known_by_feedback, feedback_answer, next_coded, sender_run}
 use Rattle.call_model.specs.Stands.{Sender, SenderStands}
 
 -- the reference of the next picture, by what the sender keeps of the last slots pictures
@@ -48,7 +48,7 @@ module _ {Frame Style Mb Picture MessageFault : Type 0} (pictures : Pictures Sty
         depth = depth;
         style = style;
         slices = encoding.cut style mbs;
-        picture = reconstruction pictures style before mbs;
+        picture = decoded_picture pictures style before mbs;
       }
 
   -- What a capture leaves: the new picture takes its slot and is not known, and no other slot
@@ -57,7 +57,7 @@ module _ {Frame Style Mb Picture MessageFault : Type 0} (pictures : Pictures Sty
     pub sent : t.sent ≡ s.sent + 1
     pub sequence : t.sequence ≡ (s.sequence + length x.slices) % 2 ^ 16
     pub packets : t.packets ≡ encoding.packets s.sent s.sequence (header_of rules s.sent x) x.slices
-    pub sizes : t.sizes ≡ with_size s.sizes (bytes_in t.packets)
+    pub sizes : t.sizes ≡ with_size s.sizes (bytes_together t.packets)
     pub picture : t.picture (s.sent % rules.slots) ≡ x.picture
     pub depth : t.depth (s.sent % rules.slots) ≡ x.depth
     pub known : t.known (s.sent % rules.slots) ≡ false

@@ -4,7 +4,7 @@ use Rattle.std.specs.Option.{option_map_or}
 use Rattle.call_model.specs.Coding.{Rules, window, period, Slice, Ack, Message, Pictures, Decoding, Coding, reconstruction_of_slices}
 use Rattle.call_model.specs.CodedPictures.{Coded, picture_at, is_among}
 use Rattle.call_model.specs.IdealCall.{Event, Send, Deliver, Play, Back, NumberedMessage, about, told_full, Call, Source, MayHappen, AllMayHappenFrom, encoded, shown_at, shown_last, has_arrived, is_full, newest_full, full_flags, with_arrival, call_from}
-use Rattle.call_model.specs.Sending.{header_of, packets_of, message_flags, made_known}
+use Rattle.call_model.specs.Sending.{header_of, packets_at, message_flags, made_known}
 use Rattle.call_model.specs.Receiving.{ReceiverRun, Heard, Refused, OtherClock, Late, Early, HeaderDiffers, MissingReference, Repeat, Overlap, Completed, Taken, nack, heard, played_shown, played_message, after_packet, after_play, receiver_run}
 use Rattle.call_model.specs.Lawful.{Covers, IsInPeriod, IsPace}
 use Rattle.call_model.specs.TwoStores.{travelling, MatchArrivals, CompleteAreFull, PicturesAreThose}
@@ -24,7 +24,7 @@ Packets Style Mb Picture = List (Coded Style Mb Picture) → ℕ → List (List 
 
 -- what a delivery of the picture's slice at place j hands over: bytes that are read as that slice
 -- with the picture's header, and nothing where there is no such slice
-pub record IsPacket {Style Mb Picture Fault : Type 0} (decoding : Decoding Style Mb Picture Fault)
+pub record IsPacketOfSlice {Style Mb Picture Fault : Type 0} (decoding : Decoding Style Mb Picture Fault)
     (rules : Rules) (packets : List (List ℕ)) (n j : ℕ) (x : Coded Style Mb Picture) : Type 0 where
   pub read_as : (slice : Slice Mb) → slice_get x.slices j ≡ Some slice
       → (bytes : List ℕ) × (slice_get packets j ≡ Some bytes)
@@ -63,7 +63,8 @@ module _ {Style Mb Picture Fault : Type 0} (decoding : Decoding Style Mb Picture
     abbrev pub IsSoundEvent : Call Style Mb Picture → Event → Type 0
     IsSoundEvent c Send = (x : Coded Style Mb Picture) → source c ≡ Some x → IsSoundPicture decoding.pictures rules c x
     IsSoundEvent c (Deliver n j) =
-        (x : Coded Style Mb Picture) → slice_get c.coded n ≡ Some x → IsPacket decoding rules (packets c.coded n) n j x
+        (x : Coded Style Mb Picture) → slice_get c.coded n ≡ Some x
+        → IsPacketOfSlice decoding rules (packets c.coded n) n j x
     IsSoundEvent c Play = ⊤
     IsSoundEvent c (Back k) = ⊤
 
@@ -141,4 +142,4 @@ abbrev pub EncoderIsSound : {Frame Style Mb Picture Fault MessageFault : Type 0}
     → Coding Frame Style Mb Picture Fault MessageFault → Rules → Type 0
 EncoderIsSound {Frame} {Style} {Mb} {Picture} {Fault} {MessageFault} coding rules =
     (pace : List ℕ → ℕ) (frames : List Frame) (past : List Event) → IsPace pace
-    → AllSound coding.decoding rules (encoded coding rules pace frames) (packets_of coding.encoding rules) past
+    → AllSound coding.decoding rules (encoded coding rules pace frames) (packets_at coding.encoding rules) past

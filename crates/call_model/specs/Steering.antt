@@ -3,10 +3,10 @@
 use Rattle.std.specs.Prelude.{◌≡◌, ℕ, ◌+◌, ◌%◌, ◌<◌, ◌≤◌, Bool, true, false, ◌&&◌, nat_le, List, [], ◌∷◌, ◌++◌, length, filter, slice_get, Option, Some, None, is_some, option_and_then, if◌then◌else◌}
 use Rattle.std.specs.Option.{option_map, option_map_or}
 use Rattle.std.specs.Result.{result_ok}
-use Rattle.call_model.specs.Coding.{Rules, Pictures, Encoding, Coding, pictures_of, reconstruction}
+use Rattle.call_model.specs.Coding.{Rules, Pictures, Encoding, Coding, pictures_of, decoded_picture}
 use Rattle.call_model.specs.CodedPictures.{Coded, depth_at, is_among, reference_for, capture}
 use Rattle.call_model.specs.IdealCall.{Event, Call, Source, AllMayHappenFrom}
-use Rattle.call_model.specs.Sending.{SenderEntry, SenderRun, packets_of, known_by_feedback, feedback_answer, next_coded, after_feedback, sender_run}
+use Rattle.call_model.specs.Sending.{SenderEntry, SenderRun, packets_at, known_by_feedback, feedback_answer, next_coded, after_feedback, sender_run}
 use Rattle.call_model.specs.SenderStanding.{IsAfterCapture, IsAfterFeedback, is_noted, next_by_kept, reference_by_kept}
 use Rattle.call_model.specs.Sound.{AllSound, FollowsTheCall}
 use Rattle.call_model.specs.Stands.{Sender, SenderKeeps, SenderStands}
@@ -37,9 +37,9 @@ pub record SteeredRun (Style Mb Picture : Type 0) : Type 0 where
   pub since : ℕ
 
 -- a run with one more picture
-abbrev pub with_picture : {Style Mb Picture : Type 0} → Coded Style Mb Picture
+abbrev pub run_with_picture : {Style Mb Picture : Type 0} → Coded Style Mb Picture
     → SenderRun Style Mb Picture → SenderRun Style Mb Picture
-with_picture x run = record run { coded = run.coded ++ x ∷ [] }
+run_with_picture x run = record run { coded = run.coded ++ x ∷ [] }
 
 -- the numbers that it knows were sent
 abbrev pub KnowsSent : {Style Mb Picture : Type 0} → SenderRun Style Mb Picture → Type 0
@@ -69,7 +69,7 @@ module _ {Frame Style Mb Picture MessageFault : Type 0} (pictures : Pictures Sty
   -- it is coded
   abbrev pub steered_capture : (List ℕ → ℕ) → Frame → SteeredRun Style Mb Picture
       → SteeredRun Style Mb Picture
-  steered_capture pace frame r = record r { run = with_picture (next_steered pace frame r) r.run }
+  steered_capture pace frame r = record r { run = run_with_picture (next_steered pace frame r) r.run }
 
   -- the bytes of a message come back
   abbrev pub steered_feedback : List ℕ → SteeredRun Style Mb Picture → SteeredRun Style Mb Picture
@@ -104,7 +104,7 @@ module _ {Frame Style Mb Picture MessageFault : Type 0} (pictures : Pictures Sty
         depth = depth;
         style = style;
         slices = encoding.cut style mbs;
-        picture = reconstruction pictures style before mbs;
+        picture = decoded_picture pictures style before mbs;
       }
 
   -- the next picture with this pace and this floor, by what the sender keeps
@@ -142,7 +142,7 @@ module _ {Frame Style Mb Picture MessageFault : Type 0} (pictures : Pictures Sty
   -- what a capture leaves holds the run with that picture, whatever it is
   abbrev pub CaptureHolds : Type 0
   CaptureHolds = (s t : Sender Picture) (run : SenderRun Style Mb Picture) (x : Coded Style Mb Picture) →
-      SenderHolds s run → IsAfterCapture pictures encoding rules s t x → SenderHolds t (with_picture x run)
+      SenderHolds s run → IsAfterCapture pictures encoding rules s t x → SenderHolds t (run_with_picture x run)
 
   abbrev pub FeedbackHolds : Type 0
   FeedbackHolds = (bytes : List ℕ) (s t : Sender Picture) (run : SenderRun Style Mb Picture) →
@@ -171,12 +171,12 @@ module _ {Frame Style Mb Picture Fault MessageFault : Type 0}
   abbrev pub SteeredIsSound : Type 0
   SteeredIsSound = (quant : Call Style Mb Picture → ℕ) (may : Call Style Mb Picture → ℕ → Bool)
       (frames : List Frame) (past : List Event) → AreQuants quant
-      → AllSound coding.decoding rules (steered quant may frames) (packets_of coding.encoding rules) past
+      → AllSound coding.decoding rules (steered quant may frames) (packets_at coding.encoding rules) past
 
   -- so a receiver in a near call of it answers and plays as the call says
   abbrev pub SteeredIsFollowed : Type 0
   SteeredIsFollowed = (quant : Call Style Mb Picture → ℕ) (may : Call Style Mb Picture → ℕ → Bool)
       (frames : List Frame) (past : List Event) → AreQuants quant
       → AllMayHappenFrom coding.decoding.pictures rules (steered quant may frames) (length frames) past
-      → FollowsTheCall coding.decoding rules (steered quant may frames) (packets_of coding.encoding rules)
+      → FollowsTheCall coding.decoding rules (steered quant may frames) (packets_at coding.encoding rules)
       (length frames) past

@@ -7,13 +7,13 @@ use Rattle.call_model.specs.Receiving.{TakenSlice, ReceiverRun, has_taken, is_co
 
 module _ {Style Mb Picture Fault : Type 0} (decoding : Decoding Style Mb Picture Fault) (rules : Rules) where
   -- what a slot of the store holds: the greatest complete number with this rest modulo slots
-  unfoldable pub slot_of : ReceiverRun Style Mb Picture → ℕ → Option ℕ
-  slot_of run rest = greatest (λ m. is_complete rules.mbs run.taken m && (m % rules.slots == rest))
+  unfoldable pub store_slot : ReceiverRun Style Mb Picture → ℕ → Option ℕ
+  store_slot run rest = greatest (λ m. is_complete rules.mbs run.taken m && (m % rules.slots == rest))
       (run.played + rules.lead + 1)
 
   -- the slot of m holds m
   abbrev pub is_kept : ReceiverRun Style Mb Picture → ℕ → Bool
-  is_kept run m = option_map_or (λ kept. kept == m) (slot_of run (m % rules.slots)) false
+  is_kept run m = option_map_or (λ kept. kept == m) (store_slot run (m % rules.slots)) false
 
   -- nothing is taken of a picture that is further ahead than lead
   abbrev pub TakenInTime : Type 0
@@ -29,7 +29,7 @@ module _ {Style Mb Picture Fault : Type 0} (decoding : Decoding Style Mb Picture
   abbrev pub ReferencesAreKept : Type 0
   ReferencesAreKept = (entries : List ReceiverEntry) (n m : ℕ) → let run = receiver_run decoding rules entries in
       run.played ≤ n → n ≤ m + window rules
-      → is_complete rules.mbs run.taken m ≡ true → slot_of run (m % rules.slots) ≡ Some m
+      → is_complete rules.mbs run.taken m ≡ true → store_slot run (m % rules.slots) ≡ Some m
 
   -- looking into one slot tells whether the reference of an open picture is complete
   abbrev pub ViewTells : Type 0
@@ -56,5 +56,5 @@ module _ {Style Mb Picture Fault : Type 0} (decoding : Decoding Style Mb Picture
       run.played ≤ n → n ≤ run.played + rules.lead → is_complete rules.mbs taken n ≡ true
       → ((m : ℕ) → m < run.played + rules.lead + 1
       → (m ≡ n → ⊥) → is_complete rules.mbs taken m ≡ is_complete rules.mbs run.taken m)
-      → (slot_of after (n % rules.slots) ≡ Some n)
-      × ((rest : ℕ) → (rest ≡ n % rules.slots → ⊥) → slot_of after rest ≡ slot_of run rest)
+      → (store_slot after (n % rules.slots) ≡ Some n)
+      × ((rest : ℕ) → (rest ≡ n % rules.slots → ⊥) → store_slot after rest ≡ store_slot run rest)

@@ -5,10 +5,10 @@ use Rattle.std.specs.List.{sum}
 use Rattle.call_model.specs.Coding.{Rules, Mark, Message, Shown}
 use Rattle.call_model.specs.CodedPictures.{Coded}
 use Rattle.call_model.specs.IdealCall.{Event, Send, Deliver, Play, Back, Call, call_from, encoded, ideal}
-use Rattle.call_model.specs.Sending.{packets_of, SenderRun, Capture, Feedback, Reply, feedback_answer, sender_run}
+use Rattle.call_model.specs.Sending.{packets_at, SenderRun, Capture, Feedback, Reply, feedback_answer, sender_run}
 use Rattle.call_model.specs.Refusals.{checked_call}
 use Rattle.call_model.specs.Lawful.{IsRules, IsPace}
-use Rattle.call_model.specs.OwnWindow.{with_own}
+use Rattle.call_model.specs.OwnWindow.{with_own_window}
 use Rattle.call_model.specs.Sound.{received}
 use Rattle.call_model.specs.TwoStores.{Agree}
 use Rattle.call_model.specs.Receiving.{Heard, heard, ReceiverEntry, Packet, PlayNext, receiver_run}
@@ -24,12 +24,12 @@ pub record Scene : Type 0 where
 
 -- slots and lead as given, temporal references of eight bits, chains of at most 131, and messages
 -- without flags
-abbrev pub rules_of : ℕ → ℕ → Rules
-rules_of slots lead = record { slots = slots; lead = lead; half = 128; chain = 131; mbs = 2; flags = 0 }
+abbrev pub scene_rules : ℕ → ℕ → Rules
+scene_rules slots lead = record { slots = slots; lead = lead; half = 128; chain = 131; mbs = 2; flags = 0 }
 
 -- the pace that always answers 8
-abbrev pub steady : List ℕ → ℕ
-steady sizes = 8
+abbrev pub always_8 : List ℕ → ℕ
+always_8 sizes = 8
 
 -- a pace that follows the bytes of the last pictures
 abbrev pub by_sizes : List ℕ → ℕ
@@ -40,12 +40,13 @@ abbrev pub flat : ℕ → Two
 flat value = record { left = value; right = value }
 
 -- the ideal call
-abbrev pub call_of : Scene → Call SmallStyle SmallMb Two
-call_of scene = ideal small scene.rules scene.pace scene.frames (reverse scene.events)
+abbrev pub worked_call : Scene → Call SmallStyle SmallMb Two
+worked_call scene = ideal small scene.rules scene.pace scene.frames (reverse scene.events)
 
 -- both ends
-abbrev pub ends_of : Scene → Joined SmallStyle SmallMb Two
-ends_of scene = joined small scene.rules (new_receiver small scene.rules) scene.pace scene.frames (reverse scene.events)
+abbrev pub scene_ends : Scene → Joined SmallStyle SmallMb Two
+scene_ends scene = joined small scene.rules (new_receiver small scene.rules) scene.pace scene.frames
+    (reverse scene.events)
 
 -- each event is near
 abbrev pub all_near : Scene → Bool
@@ -62,7 +63,7 @@ pub record IsScene (scene : Scene) : Type 0 where
 -- in each scene whose events are near, both ends do what the ideal call says
 abbrev pub ScenesAgree : Type 0
 ScenesAgree = (scene : Scene) → IsScene scene → all_near scene ≡ true
-    → Agree small scene.rules (call_of scene) (ends_of scene)
+    → Agree small scene.rules (worked_call scene) (scene_ends scene)
 
 -- of each picture the number of its reference
 abbrev pub references : List (Coded SmallStyle SmallMb Two) → List (Option ℕ)
@@ -81,12 +82,12 @@ abbrev pub marks : List (Shown Two) → List Mark
 marks shown = map (λ (x : Shown Two). x.mark) (reverse shown)
 
 -- the pictures that they showed
-abbrev pub pictures : List (Shown Two) → List Two
-pictures shown = map (λ (x : Shown Two). x.picture) (reverse shown)
+abbrev pub pictures_shown : List (Shown Two) → List Two
+pictures_shown shown = map (λ (x : Shown Two). x.picture) (reverse shown)
 
 -- the bytes of messages
-abbrev pub bytes_of : List SaidMessage → List (List ℕ)
-bytes_of said = map (λ (told : SaidMessage). told.bytes) said
+abbrev pub texts_of_said : List SaidMessage → List (List ℕ)
+texts_of_said said = map (λ (told : SaidMessage). told.bytes) said
 
 -- the receiver's answers to the deliveries among these events, both with the newest first
 abbrev pub heard_in : Rules → (List ℕ → ℕ) → List Two → List Event → List (Heard SmallFault)
@@ -94,13 +95,13 @@ heard_in rules pace frames [] = []
 heard_in rules pace frames (Deliver n j ∷ past) =
     let both = joined small rules (new_receiver small rules) pace frames past in
     option_map_or (λ bytes. heard small.decoding rules both.receiver (small.decoding.read bytes)
-    ∷ []) (slice_get (packets_of small.encoding rules both.sender.coded n) j) []
+    ∷ []) (slice_get (packets_at small.encoding rules both.sender.coded n) j) []
     ++ heard_in rules pace frames past
 heard_in rules pace frames (e ∷ past) = heard_in rules pace frames past
 
 -- the receiver's answers, the oldest first
-abbrev pub answers : Scene → List (Heard SmallFault)
-answers scene = reverse (heard_in scene.rules scene.pace scene.frames (reverse scene.events))
+abbrev pub scene_answers : Scene → List (Heard SmallFault)
+scene_answers scene = reverse (heard_in scene.rules scene.pace scene.frames (reverse scene.events))
 
 -- the sender goes by the rules of the scene, and its receiver by rules of its own: the receiver's
 -- answers to the deliveries among these events, both with the newest first
@@ -108,7 +109,7 @@ abbrev pub own_heard_in : Rules → Scene → List Event → List (Heard SmallFa
 own_heard_in own scene [] = []
 own_heard_in own scene (Deliver n j ∷ past) =
     let source = encoded small scene.rules scene.pace scene.frames in
-    let packets = packets_of small.encoding scene.rules in
+    let packets = packets_at small.encoding scene.rules in
     let c = call_from small_pictures own source past in
     option_map_or (λ bytes. heard small.decoding own (received small.decoding own source packets past)
     (small.decoding.read bytes) ∷ []) (slice_get (packets c.coded n) j) []
@@ -117,7 +118,8 @@ own_heard_in own scene (e ∷ past) = own_heard_in own scene past
 
 -- the answers of a receiver with this many slots and this lead, the oldest first
 abbrev pub own_answers : ℕ → ℕ → Scene → List (Heard SmallFault)
-own_answers slots lead scene = reverse (own_heard_in (with_own scene.rules slots lead) scene (reverse scene.events))
+own_answers slots lead scene = reverse (own_heard_in (with_own_window scene.rules slots lead) scene
+    (reverse scene.events))
 
 -- both slices of picture n are delivered
 abbrev pub whole : ℕ → List Event
@@ -129,9 +131,9 @@ lost zero = []
 lost (suc count) = Send ∷ Play ∷ lost count
 
 -- this many pictures, from n on, are sent, arrive and are played
-abbrev pub seen : ℕ → ℕ → List Event
-seen n zero = []
-seen n (suc count) = Send ∷ whole n ++ Play ∷ seen (n + 1) count
+abbrev pub seen_pictures : ℕ → ℕ → List Event
+seen_pictures n zero = []
+seen_pictures n (suc count) = Send ∷ whole n ++ Play ∷ seen_pictures (n + 1) count
 
 -- this many pictures, from n on, are sent, arrive, are acknowledged by message n and its followers,
 -- and are played
@@ -142,44 +144,44 @@ acknowledged n (suc count) = Send ∷ whole n ++ Back n ∷ Play ∷ acknowledge
 -- picture 0 is acknowledged, 1 and 2 are lost, and 3 arrives
 abbrev pub window_scene : Scene
 window_scene = record {
-  rules = rules_of 4 1;
-  pace = steady;
+  rules = scene_rules 4 1;
+  pace = always_8;
   frames = replicate 4 (flat 100);
-  events = seen 0 1 ++ Back 0 ∷ lost 2 ++ seen 3 1;
+  events = seen_pictures 0 1 ++ Back 0 ∷ lost 2 ++ seen_pictures 3 1;
 }
 
 -- picture 0 is acknowledged, 1 is lost, and 2, which refers to 0, arrives
 abbrev pub own_scene : Scene
 own_scene = record {
-  rules = rules_of 4 1;
-  pace = steady;
+  rules = scene_rules 4 1;
+  pace = always_8;
   frames = replicate 3 (flat 100);
-  events = seen 0 1 ++ Back 0 ∷ lost 1 ++ seen 2 1;
+  events = seen_pictures 0 1 ++ Back 0 ∷ lost 1 ++ seen_pictures 2 1;
 }
 
 -- picture 0 arrives, 1 is lost, and its NACK comes back
 abbrev pub offer_scene : Scene
 offer_scene = record {
-  rules = rules_of 4 1;
-  pace = steady;
+  rules = scene_rules 4 1;
+  pace = always_8;
   frames = replicate 3 (flat 100);
-  events = seen 0 1 ++ lost 1 ++ Back 1 ∷ seen 2 1;
+  events = seen_pictures 0 1 ++ lost 1 ++ Back 1 ∷ seen_pictures 2 1;
 }
 
 -- picture 0 arrives, and four are lost
 abbrev pub far_offer_scene : Scene
 far_offer_scene = record {
-  rules = rules_of 4 1;
-  pace = steady;
+  rules = scene_rules 4 1;
+  pace = always_8;
   frames = replicate 5 (flat 100);
-  events = seen 0 1 ++ lost 4;
+  events = seen_pictures 0 1 ++ lost 4;
 }
 
 -- all arrive and are acknowledged
 abbrev pub chain_scene : Scene
 chain_scene = record {
-  rules = rules_of 4 1;
-  pace = steady;
+  rules = scene_rules 4 1;
+  pace = always_8;
   frames = replicate 133 (flat 100);
   events = acknowledged 0 133;
 }
@@ -187,8 +189,8 @@ chain_scene = record {
 -- the second half comes after the play
 abbrev pub late_scene : Scene
 late_scene = record {
-  rules = rules_of 4 1;
-  pace = steady;
+  rules = scene_rules 4 1;
+  pace = always_8;
   frames = flat 100 ∷ [];
   events = Send ∷ Deliver 0 0 ∷ Play ∷ Deliver 0 1 ∷ [];
 }
@@ -196,8 +198,8 @@ late_scene = record {
 -- each half comes twice, the second half first
 abbrev pub shuffled_scene : Scene
 shuffled_scene = record {
-  rules = rules_of 4 1;
-  pace = steady;
+  rules = scene_rules 4 1;
+  pace = always_8;
   frames = flat 100 ∷ [];
   events = Send ∷ Deliver 0 1 ∷ Deliver 0 1 ∷ Deliver 0 0 ∷ Deliver 0 0 ∷ Play ∷ [];
 }
@@ -205,26 +207,26 @@ shuffled_scene = record {
 -- picture 0 is acknowledged, half of picture 1 comes, its NACK comes back, and picture 2 arrives
 abbrev pub patched_scene : Scene
 patched_scene = record {
-  rules = rules_of 4 1;
-  pace = steady;
+  rules = scene_rules 4 1;
+  pace = always_8;
   frames = flat 100 ∷ flat 50 ∷ flat 100 ∷ [];
-  events = acknowledged 0 1 ++ Send ∷ Deliver 1 0 ∷ Play ∷ Back 1 ∷ seen 2 1;
+  events = acknowledged 0 1 ++ Send ∷ Deliver 1 0 ∷ Play ∷ Back 1 ∷ seen_pictures 2 1;
 }
 
 -- pictures 0 to 3 arrive, 4 to 258 are lost, 259 arrives and is acknowledged, and 260 arrives
 abbrev pub wrap_scene : Scene
 wrap_scene = record {
-  rules = rules_of 5 1;
-  pace = steady;
+  rules = scene_rules 5 1;
+  pace = always_8;
   frames = replicate 3 (flat 100) ++ flat 50 ∷ replicate 257 (flat 100);
-  events = seen 0 4 ++ lost 255 ++ acknowledged 259 1 ++ seen 260 1;
+  events = seen_pictures 0 4 ++ lost 255 ++ acknowledged 259 1 ++ seen_pictures 260 1;
 }
 
 -- picture 1 arrives and 0 does not, whose NACK offers picture 1, above it, and comes back
 abbrev pub newer_offer_scene : Scene
 newer_offer_scene = record {
-  rules = rules_of 4 1;
-  pace = steady;
+  rules = scene_rules 4 1;
+  pace = always_8;
   frames = replicate 3 (flat 100);
   events = Send ∷ Send ∷ whole 1 ++ Play ∷ Back 1 ∷ Send ∷ Play ∷ whole 2 ++ Play ∷ [];
 }
@@ -234,7 +236,7 @@ newer_offer_scene = record {
 abbrev pub flags_scene : ℕ → Scene
 flags_scene flags = record {
   rules = record { slots = 6; lead = 2; half = 128; chain = 131; mbs = 2; flags = flags };
-  pace = steady;
+  pace = always_8;
   frames = replicate 4 (flat 100);
   events = Send ∷ Send ∷ Send ∷ whole 1 ++ whole 0 ++ Back 1 ∷ Send ∷ Play ∷ whole 3 ++ Play ∷ Play ∷ Play ∷ [];
 }
@@ -248,30 +250,30 @@ first_flag count = true ∷ replicate (count - 1) false
 
 -- the rules with temporal references of ten bits
 abbrev pub wide_rules : ℕ → ℕ → Rules
-wide_rules slots lead = record (rules_of slots lead) { half = 512 }
+wide_rules slots lead = record (scene_rules slots lead) { half = 512 }
 
 -- picture 0 is acknowledged, 1 to 197 are lost, and 198 and 199 arrive
 abbrev pub wide_window_scene : Scene
 wide_window_scene = record {
   rules = wide_rules 200 1;
-  pace = steady;
+  pace = always_8;
   frames = replicate 200 (flat 100);
-  events = acknowledged 0 1 ++ lost 197 ++ seen 198 2;
+  events = acknowledged 0 1 ++ lost 197 ++ seen_pictures 198 2;
 }
 
 -- a packet of picture 0 comes after 511 plays
 abbrev pub wide_late_scene : Scene
 wide_late_scene = record {
   rules = wide_rules 4 1;
-  pace = steady;
+  pace = always_8;
   frames = replicate 511 (flat 100);
-  events = lost 1 ++ seen 1 510 ++ Deliver 0 0 ∷ [];
+  events = lost 1 ++ seen_pictures 1 510 ++ Deliver 0 0 ∷ [];
 }
 
 -- all arrive and are acknowledged, with a pace that follows the sizes
 abbrev pub paced_scene : Scene
 paced_scene = record {
-  rules = rules_of 4 1;
+  rules = scene_rules 4 1;
   pace = by_sizes;
   frames = replicate 4 (flat 100);
   events = acknowledged 0 4;
@@ -288,12 +290,12 @@ ScenesAreLawful =
 -- a sender that captured this many pictures and then got these messages, the newest first
 abbrev pub sender_after : ℕ → List Message → SenderRun SmallStyle SmallMb Two
 sender_after count messages =
-    sender_run small_pictures small_encoding (rules_of 4 1) steady
+    sender_run small_pictures small_encoding (scene_rules 4 1) always_8
     (map (λ m. Feedback (small_message m)) messages ++ replicate count (Capture (flat 100)))
 
 -- what it answers to a message
-abbrev pub answer_after : ℕ → Message → Reply SmallFault
-answer_after count message = feedback_answer (rules_of 4 1) count (small_read_message (small_message message))
+abbrev pub worked_reply : ℕ → Message → Reply SmallFault
+worked_reply count message = feedback_answer (scene_rules 4 1) count (small_read_message (small_message message))
 
 -- the bytes of one half of picture n, flat 100, with this depth in its header
 abbrev pub half_packet : ℕ → Option ℕ → ℕ → ℕ → List ℕ
@@ -328,4 +330,4 @@ half_taken =
 -- what the receiver answers then to these bytes
 abbrev pub then_heard : List ℕ → Heard SmallFault
 then_heard bytes = heard small_decoding
-    (rules_of 4 1) (receiver_run small_decoding (rules_of 4 1) half_taken) (small_read bytes)
+    (scene_rules 4 1) (receiver_run small_decoding (scene_rules 4 1) half_taken) (small_read bytes)

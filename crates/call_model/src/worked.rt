@@ -13,12 +13,12 @@ ghost use Rattle.call_model.specs.Receiving.{OtherClock, Overlap, Refused, Repea
 ghost use Rattle.call_model.specs.Refusals.{Far, first_refusal};
 ghost use Rattle.call_model.specs.Sending.{last_numbers, Noted, Old};
 ghost use Rattle.call_model.specs.SmallCoding.{small, small_decoding, Unread};
-ghost use Rattle.call_model.specs.Store.{slot_of};
-ghost use Rattle.call_model.specs.Worked.{all_near, answers, bytes_of, call_of, depths, ends_of};
+ghost use Rattle.call_model.specs.Store.{store_slot};
+ghost use Rattle.call_model.specs.Worked.{all_near, scene_answers, texts_of_said, worked_call, depths, scene_ends};
 ghost use Rattle.call_model.specs.Worked.{flat};
-ghost use Rattle.call_model.specs.Worked.{marks, pictures, quants, references, rules_of};
+ghost use Rattle.call_model.specs.Worked.{marks, pictures_shown, quants, references, scene_rules};
 ghost use Rattle.call_model.specs.Worked.{ScenesAgree, ScenesAreLawful};
-ghost use Rattle.call_model.specs.Worked.{answer_after, first_flag, half_packet, no_flags};
+ghost use Rattle.call_model.specs.Worked.{worked_reply, first_flag, half_packet, no_flags};
 ghost use Rattle.call_model.specs.Worked.{other_clock_packet, sender_after, then_heard};
 ghost use Rattle.call_model.specs.Worked.{whole_packet};
 ghost use Rattle.call_model.specs.Worked.{chain_scene, far_offer_scene, flags_scene, late_scene};
@@ -31,34 +31,34 @@ ghost use Rattle.call_model.specs.Worked.{window_scene, wrap_scene};
 /// picture 0, picture 3 may not.
 pub fn window_ends()
     ensures near { all_near window_scene ≡ true }
-    ensures references { references (call_of window_scene).coded
+    ensures references { references (worked_call window_scene).coded
         ≡ None ∷ Some 0 ∷ Some 0 ∷ None ∷ [] }
-    ensures marks { marks (call_of window_scene).plays ≡ Exact ∷ Held ∷ Held ∷ Exact ∷ [] }
-    ensures sender { references (ends_of window_scene).sender.coded
+    ensures marks { marks (worked_call window_scene).plays ≡ Exact ∷ Held ∷ Held ∷ Exact ∷ [] }
+    ensures sender { references (scene_ends window_scene).sender.coded
         ≡ None ∷ Some 0 ∷ Some 0 ∷ None ∷ [] }
-    ensures receiver { marks (ends_of window_scene).plays ≡ Exact ∷ Held ∷ Held ∷ Exact ∷ [] }
+    ensures receiver { marks (scene_ends window_scene).plays ≡ Exact ∷ Held ∷ Held ∷ Exact ∷ [] }
 {}
 
 /// A NACK of picture 1 offers picture 0, whose ACK has not come back: picture 2 refers to picture
 /// 0.
 pub fn nack_offers_older_picture()
     ensures near { all_near offer_scene ≡ true }
-    ensures said { (call_of offer_scene).said ≡ Got 0 [] ∷ Lost 1 (Some 0) [] ∷ Got 2 [] ∷ [] }
-    ensures references { references (call_of offer_scene).coded ≡ None ∷ None ∷ Some 0 ∷ [] }
-    ensures bytes { bytes_of (ends_of offer_scene).said
+    ensures said { (worked_call offer_scene).said ≡ Got 0 [] ∷ Lost 1 (Some 0) [] ∷ Got 2 [] ∷ [] }
+    ensures references { references (worked_call offer_scene).coded ≡ None ∷ None ∷ Some 0 ∷ [] }
+    ensures bytes { texts_of_said (scene_ends offer_scene).said
         ≡ (0 ∷ 0 ∷ []) ∷ (1 ∷ 1 ∷ 0 ∷ []) ∷ (0 ∷ 2 ∷ []) ∷ [] }
-    ensures sender { references (ends_of offer_scene).sender.coded ≡ None ∷ None ∷ Some 0 ∷ [] }
-    ensures receiver { marks (ends_of offer_scene).plays ≡ Exact ∷ Held ∷ Exact ∷ [] }
+    ensures sender { references (scene_ends offer_scene).sender.coded ≡ None ∷ None ∷ Some 0 ∷ [] }
+    ensures receiver { marks (scene_ends offer_scene).plays ≡ Exact ∷ Held ∷ Exact ∷ [] }
 {}
 
 /// With four slots the NACK of picture 3 is the last that offers picture 0. The one of picture 4
 /// has none to offer, and names picture 4 itself.
 pub fn offers_end()
     ensures near { all_near far_offer_scene ≡ true }
-    ensures said { (call_of far_offer_scene).said
+    ensures said { (worked_call far_offer_scene).said
         ≡ Got 0 [] ∷ Lost 1 (Some 0) [] ∷ Lost 2 (Some 0) [] ∷ Lost 3 (Some 0) []
         ∷ Lost 4 None [] ∷ [] }
-    ensures bytes { bytes_of (ends_of far_offer_scene).said
+    ensures bytes { texts_of_said (scene_ends far_offer_scene).said
         ≡ (0 ∷ 0 ∷ []) ∷ (1 ∷ 1 ∷ 0 ∷ []) ∷ (1 ∷ 2 ∷ 0 ∷ []) ∷ (1 ∷ 3 ∷ 0 ∷ []) ∷ (1 ∷ 4 ∷ 4
         ∷ []) ∷ [] }
 {}
@@ -67,36 +67,36 @@ pub fn offers_end()
 /// known.
 pub fn chain_limit()
     ensures near { all_near chain_scene ≡ true }
-    ensures last { slice_get (references (call_of chain_scene).coded) 131 ≡ Some (Some 130) }
-    ensures depth { slice_get (depths (call_of chain_scene).coded) 131 ≡ Some 131 }
-    ensures known { is_among (call_of chain_scene).known 131 ≡ true }
-    ensures intra { slice_get (references (call_of chain_scene).coded) 132 ≡ Some None }
-    ensures sender { slice_get (references (ends_of chain_scene).sender.coded) 132 ≡ Some None }
-    ensures receiver { slice_get (marks (ends_of chain_scene).plays) 132 ≡ Some Exact }
+    ensures last { slice_get (references (worked_call chain_scene).coded) 131 ≡ Some (Some 130) }
+    ensures depth { slice_get (depths (worked_call chain_scene).coded) 131 ≡ Some 131 }
+    ensures known { is_among (worked_call chain_scene).known 131 ≡ true }
+    ensures intra { slice_get (references (worked_call chain_scene).coded) 132 ≡ Some None }
+    ensures sender { slice_get (references (scene_ends chain_scene).sender.coded) 132 ≡ Some None }
+    ensures receiver { slice_get (marks (scene_ends chain_scene).plays) 132 ≡ Some Exact }
 {}
 
 /// A packet that comes after its picture's play is late, and changes nothing: the picture stays
 /// patched, its first half as decoded and its second grey, and a NACK of it is all that is said.
 pub fn late_packet()
     ensures near { all_near late_scene ≡ true }
-    ensures answers { answers late_scene ≡ Taken ∷ Late ∷ [] }
-    ensures said { (call_of late_scene).said ≡ Lost 0 None [] ∷ [] }
-    ensures marks { marks (call_of late_scene).plays ≡ Patched ∷ [] }
-    ensures pictures { pictures (call_of late_scene).plays
+    ensures answers { scene_answers late_scene ≡ Taken ∷ Late ∷ [] }
+    ensures said { (worked_call late_scene).said ≡ Lost 0 None [] ∷ [] }
+    ensures marks { marks (worked_call late_scene).plays ≡ Patched ∷ [] }
+    ensures pictures { pictures_shown (worked_call late_scene).plays
         ≡ record { left = 100; right = 128 } ∷ [] }
-    ensures receiver { pictures (ends_of late_scene).plays
+    ensures receiver { pictures_shown (scene_ends late_scene).plays
         ≡ record { left = 100; right = 128 } ∷ [] }
-    ensures bytes { bytes_of (ends_of late_scene).said ≡ (1 ∷ 0 ∷ 0 ∷ []) ∷ [] }
+    ensures bytes { texts_of_said (scene_ends late_scene).said ≡ (1 ∷ 0 ∷ 0 ∷ []) ∷ [] }
 {}
 
 /// The packets of a picture may come in any order and more than once: each is taken once, and one
 /// ACK is said.
 pub fn any_order()
     ensures near { all_near shuffled_scene ≡ true }
-    ensures answers { answers shuffled_scene ≡ Taken ∷ Repeat ∷ Completed (Ack 0 []) ∷ Repeat ∷ [] }
-    ensures said { (call_of shuffled_scene).said ≡ Got 0 [] ∷ [] }
-    ensures pictures { pictures (call_of shuffled_scene).plays ≡ flat 100 ∷ [] }
-    ensures receiver { pictures (ends_of shuffled_scene).plays ≡ flat 100 ∷ [] }
+    ensures answers { scene_answers shuffled_scene ≡ Taken ∷ Repeat ∷ Completed (Ack 0 []) ∷ Repeat ∷ [] }
+    ensures said { (worked_call shuffled_scene).said ≡ Got 0 [] ∷ [] }
+    ensures pictures { pictures_shown (worked_call shuffled_scene).plays ≡ flat 100 ∷ [] }
+    ensures receiver { pictures_shown (scene_ends shuffled_scene).plays ≡ flat 100 ∷ [] }
 {}
 
 /// The sender has four slots and a lead of one, so its picture 2 refers to picture 0. A receiver with
@@ -104,7 +104,7 @@ pub fn any_order()
 /// greater lead alone its window has one picture, and it refuses the packets.
 pub fn own_windows()
     ensures near { all_near own_scene ≡ true }
-    ensures references { references (call_of own_scene).coded ≡ None ∷ Some 0 ∷ Some 0 ∷ [] }
+    ensures references { references (worked_call own_scene).coded ≡ None ∷ Some 0 ∷ Some 0 ∷ [] }
     ensures smaller_lead { own_answers 4 0 own_scene
         ≡ Taken ∷ Completed (Ack 0 []) ∷ Taken ∷ Completed (Ack 2 []) ∷ [] }
     ensures both_greater { own_answers 5 2 own_scene
@@ -117,12 +117,12 @@ pub fn own_windows()
 /// refers to picture 0 and not to picture 1, and is exact.
 pub fn patched_picture_kept_out()
     ensures near { all_near patched_scene ≡ true }
-    ensures said { (call_of patched_scene).said ≡ Got 0 [] ∷ Lost 1 (Some 0) [] ∷ Got 2 [] ∷ [] }
-    ensures known { (call_of patched_scene).known ≡ 0 ∷ 0 ∷ [] }
-    ensures references { references (call_of patched_scene).coded ≡ None ∷ Some 0 ∷ Some 0 ∷ [] }
-    ensures marks { marks (call_of patched_scene).plays ≡ Exact ∷ Patched ∷ Exact ∷ [] }
-    ensures sender { (ends_of patched_scene).sender.known ≡ 0 ∷ 0 ∷ [] }
-    ensures receiver { pictures (ends_of patched_scene).plays
+    ensures said { (worked_call patched_scene).said ≡ Got 0 [] ∷ Lost 1 (Some 0) [] ∷ Got 2 [] ∷ [] }
+    ensures known { (worked_call patched_scene).known ≡ 0 ∷ 0 ∷ [] }
+    ensures references { references (worked_call patched_scene).coded ≡ None ∷ Some 0 ∷ Some 0 ∷ [] }
+    ensures marks { marks (worked_call patched_scene).plays ≡ Exact ∷ Patched ∷ Exact ∷ [] }
+    ensures sender { (scene_ends patched_scene).sender.known ≡ 0 ∷ 0 ∷ [] }
+    ensures receiver { pictures_shown (scene_ends patched_scene).plays
         ≡ flat 100 ∷ record { left = 50; right = 100 } ∷ flat 100 ∷ [] }
 {}
 
@@ -149,81 +149,81 @@ pub fn each_answer()
 /// wrap of 256. Picture 260 names it, and is decoded from picture 259.
 pub fn same_trp_after_wrap()
     ensures near { all_near wrap_scene ≡ true }
-    ensures kept { slot_of small_decoding wrap_scene.rules (ends_of wrap_scene).receiver 3
+    ensures kept { store_slot small_decoding wrap_scene.rules (scene_ends wrap_scene).receiver 3
         ≡ Some 3 }
-    ensures reference { slice_get (references (call_of wrap_scene).coded) 260 ≡ Some (Some 259) }
-    ensures sender { slice_get (references (ends_of wrap_scene).sender.coded) 260
+    ensures reference { slice_get (references (worked_call wrap_scene).coded) 260 ≡ Some (Some 259) }
+    ensures sender { slice_get (references (scene_ends wrap_scene).sender.coded) 260
         ≡ Some (Some 259) }
-    ensures mark { slice_get (marks (ends_of wrap_scene).plays) 260 ≡ Some Exact }
-    ensures picture { slice_get (pictures (ends_of wrap_scene).plays) 260 ≡ Some (flat 100) }
+    ensures mark { slice_get (marks (scene_ends wrap_scene).plays) 260 ≡ Some Exact }
+    ensures picture { slice_get (pictures_shown (scene_ends wrap_scene).plays) 260 ≡ Some (flat 100) }
 {}
 
 /// Picture 1 arrives and picture 0 doesn't: the NACK of picture 0 offers picture 1, above its own,
 /// and picture 2 refers to it.
 pub fn nack_offers_newer_picture()
     ensures near { all_near newer_offer_scene ≡ true }
-    ensures said { (call_of newer_offer_scene).said
+    ensures said { (worked_call newer_offer_scene).said
         ≡ Got 1 [] ∷ Lost 0 (Some 1) [] ∷ Got 2 [] ∷ [] }
-    ensures bytes { bytes_of (ends_of newer_offer_scene).said
+    ensures bytes { texts_of_said (scene_ends newer_offer_scene).said
         ≡ (0 ∷ 1 ∷ []) ∷ (1 ∷ 0 ∷ 1 ∷ []) ∷ (0 ∷ 2 ∷ []) ∷ [] }
-    ensures references { references (call_of newer_offer_scene).coded ≡ None ∷ None ∷ Some 1 ∷ [] }
-    ensures sender { references (ends_of newer_offer_scene).sender.coded
+    ensures references { references (worked_call newer_offer_scene).coded ≡ None ∷ None ∷ Some 1 ∷ [] }
+    ensures sender { references (scene_ends newer_offer_scene).sender.coded
         ≡ None ∷ None ∷ Some 1 ∷ [] }
-    ensures marks { marks (call_of newer_offer_scene).plays ≡ Held ∷ Exact ∷ Exact ∷ [] }
-    ensures receiver { marks (ends_of newer_offer_scene).plays ≡ Held ∷ Exact ∷ Exact ∷ [] }
+    ensures marks { marks (worked_call newer_offer_scene).plays ≡ Held ∷ Exact ∷ Exact ∷ [] }
+    ensures receiver { marks (scene_ends newer_offer_scene).plays ≡ Held ∷ Exact ∷ Exact ∷ [] }
 {}
 
 /// Of pictures 0 and 1 both are complete, and the ACK of picture 1 is lost. With version 2 the ACK
 /// of picture 0 flags picture 1, and picture 3 refers to picture 1.
 pub fn flags_tell_of_later_picture()
     ensures near { all_near (flags_scene 14) ≡ true }
-    ensures said { (call_of (flags_scene 14)).said
+    ensures said { (worked_call (flags_scene 14)).said
         ≡ Got 1 (no_flags 14) ∷ Got 0 (first_flag 14) ∷ Got 3 (no_flags 14)
         ∷ Lost 2 (Some 3) (first_flag 14) ∷ [] }
-    ensures known { (call_of (flags_scene 14)).known ≡ 0 ∷ 1 ∷ [] }
-    ensures bytes { slice_get (bytes_of (ends_of (flags_scene 14)).said) 1
+    ensures known { (worked_call (flags_scene 14)).known ≡ 0 ∷ 1 ∷ [] }
+    ensures bytes { slice_get (texts_of_said (scene_ends (flags_scene 14)).said) 1
         ≡ Some (0 ∷ 0 ∷ 1 ∷ 0 ∷ 0 ∷ 0 ∷ 0 ∷ 0 ∷ 0 ∷ 0 ∷ 0 ∷ 0 ∷ 0 ∷ 0 ∷ 0 ∷ 0 ∷ []) }
-    ensures references { references (call_of (flags_scene 14)).coded
+    ensures references { references (worked_call (flags_scene 14)).coded
         ≡ None ∷ None ∷ None ∷ Some 1 ∷ [] }
-    ensures sender { references (ends_of (flags_scene 14)).sender.coded
+    ensures sender { references (scene_ends (flags_scene 14)).sender.coded
         ≡ None ∷ None ∷ None ∷ Some 1 ∷ [] }
-    ensures marks { marks (call_of (flags_scene 14)).plays ≡ Exact ∷ Exact ∷ Held ∷ Exact ∷ [] }
-    ensures receiver { marks (ends_of (flags_scene 14)).plays ≡ Exact ∷ Exact ∷ Held ∷ Exact ∷ [] }
+    ensures marks { marks (worked_call (flags_scene 14)).plays ≡ Exact ∷ Exact ∷ Held ∷ Exact ∷ [] }
+    ensures receiver { marks (scene_ends (flags_scene 14)).plays ≡ Exact ∷ Exact ∷ Held ∷ Exact ∷ [] }
 {}
 
 /// With version 1 nothing tells of picture 1: picture 3 refers to picture 0.
 pub fn no_flags_tell_nothing()
     ensures near { all_near (flags_scene 0) ≡ true }
-    ensures said { (call_of (flags_scene 0)).said
+    ensures said { (worked_call (flags_scene 0)).said
         ≡ Got 1 [] ∷ Got 0 [] ∷ Got 3 [] ∷ Lost 2 (Some 3) [] ∷ [] }
-    ensures known { (call_of (flags_scene 0)).known ≡ 0 ∷ [] }
-    ensures references { references (call_of (flags_scene 0)).coded
+    ensures known { (worked_call (flags_scene 0)).known ≡ 0 ∷ [] }
+    ensures references { references (worked_call (flags_scene 0)).coded
         ≡ None ∷ None ∷ None ∷ Some 0 ∷ [] }
-    ensures sender { references (ends_of (flags_scene 0)).sender.coded
+    ensures sender { references (scene_ends (flags_scene 0)).sender.coded
         ≡ None ∷ None ∷ None ∷ Some 0 ∷ [] }
-    ensures receiver { marks (ends_of (flags_scene 0)).plays ≡ Exact ∷ Exact ∷ Held ∷ Exact ∷ [] }
+    ensures receiver { marks (scene_ends (flags_scene 0)).plays ≡ Exact ∷ Exact ∷ Held ∷ Exact ∷ [] }
 {}
 
 /// With temporal references of ten bits and 200 slots, picture 198 may still refer to picture 0,
 /// and picture 199 may not.
 pub fn wide_window_ends()
     ensures near { all_near wide_window_scene ≡ true }
-    ensures last { slice_get (references (call_of wide_window_scene).coded) 198 ≡ Some (Some 0) }
-    ensures past { slice_get (references (call_of wide_window_scene).coded) 199 ≡ Some None }
-    ensures sender { slice_get (references (ends_of wide_window_scene).sender.coded) 198
+    ensures last { slice_get (references (worked_call wide_window_scene).coded) 198 ≡ Some (Some 0) }
+    ensures past { slice_get (references (worked_call wide_window_scene).coded) 199 ≡ Some None }
+    ensures sender { slice_get (references (scene_ends wide_window_scene).sender.coded) 198
         ≡ Some (Some 0) }
-    ensures receiver { slice_get (marks (ends_of wide_window_scene).plays) 198 ≡ Some Exact }
+    ensures receiver { slice_get (marks (scene_ends wide_window_scene).plays) 198 ≡ Some Exact }
 {}
 
 /// With temporal references of ten bits a packet of picture 0 is near after 511 plays, and late.
 /// With eight bits it is far, as from the 128th play on.
 pub fn wide_late_packet()
     ensures near { all_near wide_late_scene ≡ true }
-    ensures answer { slice_get (answers wide_late_scene) 1020 ≡ Some Late }
-    ensures mark { slice_get (marks (ends_of wide_late_scene).plays) 0 ≡ Some Held }
-    ensures far { first_refusal (rules_of 4 1) 511 511 511 [] (Deliver 0 0) ≡ Some (Far 0 511) }
-    ensures near_enough { first_refusal (rules_of 4 1) 511 511 127 [] (Deliver 0 0) ≡ None }
-    ensures just_far { first_refusal (rules_of 4 1) 511 511 128 [] (Deliver 0 0)
+    ensures answer { slice_get (scene_answers wide_late_scene) 1020 ≡ Some Late }
+    ensures mark { slice_get (marks (scene_ends wide_late_scene).plays) 0 ≡ Some Held }
+    ensures far { first_refusal (scene_rules 4 1) 511 511 511 [] (Deliver 0 0) ≡ Some (Far 0 511) }
+    ensures near_enough { first_refusal (scene_rules 4 1) 511 511 127 [] (Deliver 0 0) ≡ None }
+    ensures just_far { first_refusal (scene_rules 4 1) 511 511 128 [] (Deliver 0 0)
         ≡ Some (Far 0 128) }
 {}
 
@@ -231,11 +231,11 @@ pub fn wide_late_packet()
 /// of six.
 pub fn pace_follows_sizes()
     ensures near { all_near paced_scene ≡ true }
-    ensures quants { quants (call_of paced_scene).coded ≡ 1 ∷ 15 ∷ 27 ∷ 8 ∷ [] }
-    ensures sender { quants (ends_of paced_scene).sender.coded ≡ 1 ∷ 15 ∷ 27 ∷ 8 ∷ [] }
-    ensures references { references (ends_of paced_scene).sender.coded
+    ensures quants { quants (worked_call paced_scene).coded ≡ 1 ∷ 15 ∷ 27 ∷ 8 ∷ [] }
+    ensures sender { quants (scene_ends paced_scene).sender.coded ≡ 1 ∷ 15 ∷ 27 ∷ 8 ∷ [] }
+    ensures references { references (scene_ends paced_scene).sender.coded
         ≡ None ∷ Some 0 ∷ Some 1 ∷ Some 2 ∷ [] }
-    ensures receiver { marks (ends_of paced_scene).plays ≡ Exact ∷ Exact ∷ Exact ∷ Exact ∷ [] }
+    ensures receiver { marks (scene_ends paced_scene).plays ≡ Exact ∷ Exact ∷ Exact ∷ Exact ∷ [] }
 {}
 
 /// The sizes that a pace is asked with are those of the last 16 pictures, or of all where there are
@@ -248,8 +248,8 @@ pub fn last_sixteen()
 
 /// A message about a picture that is half a period back or more is old, and makes nothing known.
 pub fn old_feedback()
-    ensures noted { answer_after 127 (Ack 0 []) ≡ Noted }
-    ensures old { answer_after 128 (Ack 0 []) ≡ Old }
+    ensures noted { worked_reply 127 (Ack 0 []) ≡ Noted }
+    ensures old { worked_reply 128 (Ack 0 []) ≡ Old }
     ensures known { (sender_after 127 (Ack 0 [] ∷ [])).known ≡ 0 ∷ [] }
     ensures nothing { (sender_after 128 (Ack 0 [] ∷ [])).known ≡ [] }
 {}
@@ -259,8 +259,8 @@ pub fn old_feedback()
 /// and the flags of pictures 2 and 3 make nothing known.
 pub fn lying_feedback()
     ensures believed { (sender_after 2 (Ack 1 [] ∷ [])).known ≡ 1 ∷ [] }
-    ensures unsent { answer_after 2 (Ack 5 []) ≡ Old }
-    ensures offered { answer_after 2 (Nack 1 7 []) ≡ Noted }
+    ensures unsent { worked_reply 2 (Ack 5 []) ≡ Old }
+    ensures offered { worked_reply 2 (Nack 1 7 []) ≡ Noted }
     ensures nothing { (sender_after 2 (Nack 1 7 [] ∷ Ack 5 [] ∷ [])).known ≡ [] }
     ensures flags { (sender_after 2 (Ack 0 (true ∷ true ∷ true ∷ []) ∷ [])).known ≡ 0 ∷ 1 ∷ [] }
 {}

@@ -2,7 +2,8 @@
 use Rattle.std.proofs.Common.{◌<◌, ◌≤◌, ◌^◌, ◌+◌, inl, inr, ℕ, [], ◌∷◌, length, length-append, arith}
 use Rattle.std.specs.Prelude.{decimal}
 use Rattle.std.proofs.lemmas.Fmt.{length-decimal-le}
-use Rattle.call_report.specs.Text.{HasRoom, Text, gap, with_pair}
+use Rattle.h263_types.specs.Texts.{Text}
+use Rattle.call_report.specs.Text.{HasRoomForWord, gap, with_pair}
 
 pub decimal_short : (n : ℕ) → n < 2 ^ 64 → length (decimal n) ≤ 20
 decimal_short n h = length-decimal-le 20 n (omega arith) (omega arith) h
@@ -17,7 +18,7 @@ pub pair_short : (text word : Text) (number : ℕ) → number < 2 ^ 64
 pair_short text word number h =
     simp length-append (omega (arith, gap_short text, decimal_short number h))
 
-pub pair_fits : (text word : Text) (number : ℕ) → number < 2 ^ 64 → HasRoom text word number
+pub pair_fits : (text word : Text) (number : ℕ) → number < 2 ^ 64 → HasRoomForWord text word number
     → length (with_pair text word number) ≤ 256
 pair_fits text word number h (inl room) = omega (arith, pair_short text word number h)
 pair_fits text word number h (inr fits) = fits

@@ -12,13 +12,7 @@ use Rattle.event_logs.specs.declared.fault.LogFault.{LogFault}
 use Rattle.event_logs.specs.declared.fault.LogFault.TheVariants as log
 use Rattle.call_report.specs.declared.status.Status.{Status}
 use Rattle.call_report.specs.declared.status.Status.TheVariants.{Ok as Fine, OutOfMemory, Usage, ReadFault, WriteFault, VideoRefused, TraceRefused, LogRefused, OpenFault, Video2Refused}
-
-abbrev pub Text : Type 0
-Text = List ℕ
-
--- a line's end
-abbrev pub newline : Text
-newline = 10 ∷ []
+use Rattle.h263_types.specs.Texts.{Text, newline}
 
 -- ---- pictures
 
@@ -60,8 +54,8 @@ with_pair text word number = text ++ gap text ++ word ++ (32 ∷ decimal number)
 
 -- the text with one more word and its number has at most 256 bytes; whatever the number, a gap, a space and 20 digits
 -- are enough
-abbrev pub HasRoom : Text → Text → ℕ → Type 0
-HasRoom text word number = (length text + length word + 22 ≤ 256) ⊎ (length (with_pair text word number) ≤ 256)
+abbrev pub HasRoomForWord : Text → Text → ℕ → Type 0
+HasRoomForWord text word number = (length text + length word + 22 ≤ 256) ⊎ (length (with_pair text word number) ≤ 256)
 
 -- the line of these words and numbers
 abbrev pub counts : List (Text × ℕ) → Text
@@ -70,35 +64,36 @@ counts pairs = fold (λ text p. with_pair text p.0 p.1) [] pairs ++ newline
 -- ---- refusals
 
 -- a fault at a place
-abbrev pub placed : Text → Text → Text → ℕ → Text
-placed head fault place number = head ++ fault ++ place ++ decimal number ++ newline
+abbrev pub fault_placed : Text → Text → Text → ℕ → Text
+fault_placed head fault place number = head ++ fault ++ place ++ decimal number ++ newline
 
 abbrev pub video_text : Text → Y4mFault → Text
-video_text head (video.NotY4m at) = placed head (codes "not y4m") (codes " at byte ") at
-video_text head (video.Size at) = placed head (codes "size") (codes " at byte ") at
-video_text head (video.Interlaced at) = placed head (codes "interlaced") (codes " at byte ") at
-video_text head (video.Colour at) = placed head (codes "colour") (codes " at byte ") at
-video_text head (video.ShortFrame at) = placed head (codes "short frame") (codes " at byte ") at
-video_text head (video.TooMany at) = placed head (codes "too many frames") (codes " at byte ") at
+video_text head (video.NotY4m at) = fault_placed head (codes "not y4m") (codes " at byte ") at
+video_text head (video.Size at) = fault_placed head (codes "size") (codes " at byte ") at
+video_text head (video.Interlaced at) = fault_placed head (codes "interlaced") (codes " at byte ") at
+video_text head (video.Colour at) = fault_placed head (codes "colour") (codes " at byte ") at
+video_text head (video.ShortFrame at) = fault_placed head (codes "short frame") (codes " at byte ") at
+video_text head (video.TooMany at) = fault_placed head (codes "too many frames") (codes " at byte ") at
 
 abbrev pub far_text : ℕ → ℕ → ℕ → Text
 far_text line given other = codes "trace refused: far at line "
     ++ decimal line ++ codes ": " ++ decimal given ++ (32 ∷ decimal other) ++ newline
 
 abbrev pub trace_text : TraceFault → Text
-trace_text (trace.BadLine line) = placed (codes "trace refused: ") (codes "bad line") (codes " at line ") line
-trace_text (trace.TooMany line) = placed (codes "trace refused: ") (codes "too many lines") (codes " at line ") line
-trace_text (trace.NoFrame line) = placed (codes "trace refused: ") (codes "no frame") (codes " at line ") line
-trace_text (trace.NotSent line) = placed (codes "trace refused: ") (codes "not sent") (codes " at line ") line
-trace_text (trace.NotSaid line) = placed (codes "trace refused: ") (codes "not said") (codes " at line ") line
+trace_text (trace.BadLine line) = fault_placed (codes "trace refused: ") (codes "bad line") (codes " at line ") line
+trace_text (trace.TooMany line) = fault_placed (codes "trace refused: ") (codes "too many lines")
+    (codes " at line ") line
+trace_text (trace.NoFrame line) = fault_placed (codes "trace refused: ") (codes "no frame") (codes " at line ") line
+trace_text (trace.NotSent line) = fault_placed (codes "trace refused: ") (codes "not sent") (codes " at line ") line
+trace_text (trace.NotSaid line) = fault_placed (codes "trace refused: ") (codes "not said") (codes " at line ") line
 trace_text (trace.PlayBeforeSend line) =
-    placed (codes "trace refused: ") (codes "play before send") (codes " at line ") line
+    fault_placed (codes "trace refused: ") (codes "play before send") (codes " at line ") line
 trace_text (trace.Far line given other) = far_text line given other
 
 abbrev pub log_text : LogFault → Text
-log_text (log.BadRecord at) = placed (codes "log refused: ") (codes "bad record") (codes " at byte ") at
-log_text (log.NoFrame at) = placed (codes "log refused: ") (codes "no frame") (codes " at byte ") at
-log_text (log.TooMany at) = placed (codes "log refused: ") (codes "too many records") (codes " at byte ") at
+log_text (log.BadRecord at) = fault_placed (codes "log refused: ") (codes "bad record") (codes " at byte ") at
+log_text (log.NoFrame at) = fault_placed (codes "log refused: ") (codes "no frame") (codes " at byte ") at
+log_text (log.TooMany at) = fault_placed (codes "log refused: ") (codes "too many records") (codes " at byte ") at
 
 -- a report that can't be opened can't say so
 abbrev pub open_text : Role → Text

@@ -3,5 +3,5 @@ use Rattle.std.specs.Prelude.{ℕ, List}
 use Rattle.call_report.specs.declared.line.Line.{Line}
 
 -- its bytes
-abbrev pub text_of : Line → List ℕ
-text_of line = line.text.bytes
+abbrev pub line_text : Line → List ℕ
+line_text line = line.text.bytes

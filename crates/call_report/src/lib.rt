@@ -15,7 +15,8 @@
 //!
 //! - **A run can always write its last line.** `refusal_line` has no precondition; its line is
 //!   empty for Ok, WriteFault and a report that could not be opened. A line of counts asks for room
-//!   for its text, or 22 bytes more than the word (`HasRoom`), so callers needn't know the digits.
+//!   for its text, or 22 bytes more than the word (`HasRoomForWord`), so callers needn't know the
+//!   digits.
 #![tactic(auto)]
 
 mod line;

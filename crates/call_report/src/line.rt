@@ -1,7 +1,8 @@
 //! A line of the report.
 ghost use Rattle.std.specs.Prelude.{◌≡◌, ◌≤◌, ◌<◌, ◌+◌, ◌++◌, ◌∷◌, [], length, decimal};
-ghost use Rattle.call_report.specs.Text.{newline, with_pair, gap, HasRoom};
-ghost use Rattle.call_report.specs.View.{text_of};
+ghost use Rattle.h263_types.specs.Texts.{newline};
+ghost use Rattle.call_report.specs.Text.{with_pair, gap, HasRoomForWord};
+ghost use Rattle.call_report.specs.View.{line_text};
 
 use arrayvec::ArrayString;
 use itoa::Buffer;
@@ -18,8 +19,8 @@ pub struct Line {
 impl Line {
     /// The line without a byte.
     pub fn empty() -> Line
-        ensures value { text_of result ≡ [] }
-        ensures len { length (text_of result) ≡ 0 }
+        ensures value { line_text result ≡ [] }
+        ensures len { length (line_text result) ≡ 0 }
     {
         Line {
             text: ArrayString::new(),
@@ -28,7 +29,7 @@ impl Line {
 
     /// Its bytes, with the newline once it has ended.
     pub fn text(&self) -> &[u8]
-        ensures value { result.now ≡ text_of self.now }
+        ensures value { result.now ≡ line_text self.now }
         ensures fits { length result.now ≤ 256 }
     {
         self.text.as_str().as_bytes()
@@ -38,9 +39,9 @@ impl Line {
     /// start.
     #[tactic(auto, using(crate::proofs::Digits::pair_fits))]
     pub fn pair(&mut self, word: &str, number: u64)
-        requires { HasRoom (text_of self.old) word.now number }
-        ensures value { text_of self.new ≡ with_pair (text_of self.old) word.now number }
-        ensures len { length (text_of self.new) ≤ length (text_of self.old) + length word.now + 22 }
+        requires { HasRoomForWord (line_text self.old) word.now number }
+        ensures value { line_text self.new ≡ with_pair (line_text self.old) word.now number }
+        ensures len { length (line_text self.new) ≤ length (line_text self.old) + length word.now + 22 }
     {
         let mut buffer = Buffer::new();
         self.put_gap();
@@ -51,9 +52,9 @@ impl Line {
 
     /// Appends the newline.
     pub fn end(&mut self)
-        requires { length (text_of self.old) < 256 }
-        ensures value { text_of self.new ≡ text_of self.old ++ newline }
-        ensures len { length (text_of self.new) ≡ length (text_of self.old) + 1 }
+        requires { length (line_text self.old) < 256 }
+        ensures value { line_text self.new ≡ line_text self.old ++ newline }
+        ensures len { length (line_text self.new) ≡ length (line_text self.old) + 1 }
     {
         self.put("\n");
     }
@@ -61,8 +62,8 @@ impl Line {
     // The line of one text.
     pub(crate) fn of(text: &str) -> Line
         requires { length text.now ≤ 256 }
-        ensures value { text_of result ≡ text.now }
-        ensures len { length (text_of result) ≡ length text.now }
+        ensures value { line_text result ≡ text.now }
+        ensures len { length (line_text result) ≡ length text.now }
     {
         let mut line = Line::empty();
         line.put(text);
@@ -72,7 +73,7 @@ impl Line {
     // The line of a letter and a space.
     pub(crate) fn of_letter(letter: u8) -> Line
         requires { letter < 128 }
-        ensures { text_of result ≡ letter ∷ 32 ∷ [] }
+        ensures { line_text result ≡ letter ∷ 32 ∷ [] }
     {
         let mut text = ArrayString::new();
         text.push(letter as char);
@@ -81,8 +82,8 @@ impl Line {
     }
 
     fn put_gap(&mut self)
-        requires { length (text_of self.old) < 256 }
-        ensures value { text_of self.new ≡ text_of self.old ++ gap (text_of self.old) }
+        requires { length (line_text self.old) < 256 }
+        ensures value { line_text self.new ≡ line_text self.old ++ gap (line_text self.old) }
     {
         if !self.text.is_empty() {
             self.put(" ");
@@ -90,9 +91,9 @@ impl Line {
     }
 
     pub(crate) fn put(&mut self, text: &str)
-        requires { length (text_of self.old) + length text.now ≤ 256 }
-        ensures value { text_of self.new ≡ text_of self.old ++ text.now }
-        ensures len { length (text_of self.new) ≡ length (text_of self.old) + length text.now }
+        requires { length (line_text self.old) + length text.now ≤ 256 }
+        ensures value { line_text self.new ≡ line_text self.old ++ text.now }
+        ensures len { length (line_text self.new) ≡ length (line_text self.old) + length text.now }
     {
         self.text.push_str(text);
     }
@@ -100,9 +101,9 @@ impl Line {
     // Appends a number, which has at most 20 digits.
     #[tactic(auto, using(crate::proofs::Digits::decimal_short))]
     pub(crate) fn put_number(&mut self, number: u64)
-        requires { length (text_of self.old) + 20 ≤ 256 }
-        ensures value { text_of self.new ≡ text_of self.old ++ decimal number }
-        ensures len { length (text_of self.new) ≤ length (text_of self.old) + 20 }
+        requires { length (line_text self.old) + 20 ≤ 256 }
+        ensures value { line_text self.new ≡ line_text self.old ++ decimal number }
+        ensures len { length (line_text self.new) ≤ length (line_text self.old) + 20 }
     {
         let mut buffer = Buffer::new();
         self.put(buffer.format(number));

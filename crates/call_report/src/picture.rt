@@ -1,15 +1,15 @@
 //! The line of a picture.
 ghost use Rattle.std.specs.Prelude.{◌≡◌, ◌≤◌, ◌<◌, ◌+◌, ◌++◌, length, IfSome};
 ghost use Rattle.call_report.specs.Text.{mark_part, party_part, picture_text, reference_part};
-ghost use Rattle.call_report.specs.View.{text_of};
+ghost use Rattle.call_report.specs.View.{line_text};
 
 use crate::line::Line;
 use h263_types::Mark;
 
 fn party_start(party: Option<u8>) -> Line
     requires { IfSome party (λ letter. letter < 128) }
-    ensures value { text_of result ≡ party_part party }
-    ensures short { length (text_of result) ≤ 2 }
+    ensures value { line_text result ≡ party_part party }
+    ensures short { length (line_text result) ≤ 2 }
 {
     match party {
         Some(letter) => Line::of_letter(letter),
@@ -31,9 +31,9 @@ fn mark_words(mark: Option<Mark>) -> &'static str
 
 impl Line {
     fn put_reference(&mut self, reference: Option<Option<u32>>)
-        requires { length (text_of self.old) + 26 ≤ 256 }
-        ensures value { text_of self.new ≡ text_of self.old ++ reference_part reference }
-        ensures len { length (text_of self.new) ≤ length (text_of self.old) + 26 }
+        requires { length (line_text self.old) + 26 ≤ 256 }
+        ensures value { line_text self.new ≡ line_text self.old ++ reference_part reference }
+        ensures len { length (line_text self.new) ≤ length (line_text self.old) + 26 }
     {
         match reference {
             Some(Some(number)) => {
@@ -56,7 +56,7 @@ pub fn picture_line(
     party: Option<u8>,
 ) -> Line
     requires { IfSome party (λ letter. letter < 128) }
-    ensures { text_of result ≡ picture_text number mark reference party }
+    ensures { line_text result ≡ picture_text number mark reference party }
 {
     let mut line = party_start(party);
     line.put_number(number as u64);

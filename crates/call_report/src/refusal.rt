@@ -1,8 +1,8 @@
 //! The line of a status.
 ghost use Rattle.std.specs.Prelude.{◌≡◌, ◌≤◌, ◌<◌, ◌+◌, ◌++◌, length, codes};
-ghost use Rattle.call_report.specs.Text.{far_text, log_text, open_text, placed, status_text};
+ghost use Rattle.call_report.specs.Text.{far_text, log_text, open_text, fault_placed, status_text};
 ghost use Rattle.call_report.specs.Text.{trace_text, video_text};
-ghost use Rattle.call_report.specs.View.{text_of};
+ghost use Rattle.call_report.specs.View.{line_text};
 
 use crate::line::Line;
 use crate::status::Status;
@@ -19,7 +19,7 @@ fn placed(head: &str, fault: &str, place: &str, number: u64) -> Line
     requires head { length head.now ≤ 40 }
     requires fault { length fault.now ≤ 40 }
     requires place { length place.now ≤ 40 }
-    ensures { text_of result ≡ placed head.now fault.now place.now number }
+    ensures { line_text result ≡ fault_placed head.now fault.now place.now number }
 {
     let mut line = Line::of(head);
     line.put(fault);
@@ -31,7 +31,7 @@ fn placed(head: &str, fault: &str, place: &str, number: u64) -> Line
 
 fn video_line(head: &str, fault: Y4mFault) -> Line
     requires { length head.now ≤ 40 }
-    ensures { text_of result ≡ video_text head.now fault }
+    ensures { line_text result ≡ video_text head.now fault }
 {
     match fault {
         Y4mFault::NotY4m { at } => placed(head, "not y4m", " at byte ", at),
@@ -44,7 +44,7 @@ fn video_line(head: &str, fault: Y4mFault) -> Line
 }
 
 fn far_line(line: u32, given: u32, other: u32) -> Line
-    ensures { text_of result ≡ far_text line given other }
+    ensures { line_text result ≡ far_text line given other }
 {
     let mut text = Line::of("trace refused: far at line ");
     text.put_number(line as u64);
@@ -58,13 +58,13 @@ fn far_line(line: u32, given: u32, other: u32) -> Line
 
 fn at_line(fault: &str, line: u32) -> Line
     requires { length fault.now ≤ 40 }
-    ensures { text_of result ≡ placed (codes "trace refused: ") fault.now (codes " at line ") line }
+    ensures { line_text result ≡ fault_placed (codes "trace refused: ") fault.now (codes " at line ") line }
 {
     placed("trace refused: ", fault, " at line ", line as u64)
 }
 
 fn trace_line(fault: TraceFault) -> Line
-    ensures { text_of result ≡ trace_text fault }
+    ensures { line_text result ≡ trace_text fault }
 {
     match fault {
         TraceFault::BadLine { line } => at_line("bad line", line),
@@ -78,7 +78,7 @@ fn trace_line(fault: TraceFault) -> Line
 }
 
 fn log_line(fault: LogFault) -> Line
-    ensures { text_of result ≡ log_text fault }
+    ensures { line_text result ≡ log_text fault }
 {
     match fault {
         LogFault::BadRecord { at } => placed("log refused: ", "bad record", " at byte ", at),
@@ -88,7 +88,7 @@ fn log_line(fault: LogFault) -> Line
 }
 
 fn open_line(role: Role) -> Line
-    ensures { text_of result ≡ open_text role }
+    ensures { line_text result ≡ open_text role }
 {
     match role {
         Role::Video => Line::of("cannot open video\n"),
@@ -104,7 +104,7 @@ fn open_line(role: Role) -> Line
 /// The line that a run writes before it ends with a status. It is empty for `Ok`, for
 /// `WriteFault`, and where the report itself could not be attached.
 pub fn refusal_line(status: &Status) -> Line
-    ensures { text_of result ≡ status_text status.now }
+    ensures { line_text result ≡ status_text status.now }
 {
     match *status {
         Status::Ok | Status::WriteFault => Line::empty(),

@@ -8,8 +8,8 @@ use Rattle.std.proofs.lemmas.List.{length-append, length-drop, length-take-le, g
 use Rattle.circular_buffer.specs.Buffer.{Buffer, buffer, keep_last, last_item}
 use Rattle.call_rings.specs.declared.kept.KeptPackets.{KeptPackets}
 use Rattle.call_rings.specs.declared.sent_packets.SentPackets.{SentPackets}
-use Rattle.call_rings.specs.Kept.{HasPackets}
-use Rattle.call_rings.specs.Keeping.{Pictures, HoldsPackets}
+use Rattle.call_rings.specs.Kept.{KeepsPackets}
+use Rattle.call_rings.specs.Keeping.{PacketsOfPictures, HoldsPackets}
 
 -- ---- one item of a list
 
@@ -61,8 +61,8 @@ All-turned P xs old x all first keeps =
 abbrev turned : SentPackets → KeptPackets → List KeptPackets
 turned r x = drop 1 (r.pictures.items) ++ x ∷ []
 
-pub begun_holds : (r new : SentPackets) (x : KeptPackets) (pictures : Pictures) → HoldsPackets r pictures
-    → HasPackets x []
+pub begun_holds : (r new : SentPackets) (x : KeptPackets) (pictures : PacketsOfPictures) → HoldsPackets r pictures
+    → KeepsPackets x []
     → new.pictures ≡ buffer (turned r x) (r.pictures.capacity) → new.begun ≡ r.begun + 1
     → HoldsPackets new (pictures ++ [] ∷ [])
 begun_holds r new x pictures kept none is begun =
@@ -76,7 +76,7 @@ begun_holds r new x pictures kept none is begun =
       each = λ n low near.
           let place = n + new.pictures.capacity - new.begun in
           let Is = λ (o : Option KeptPackets) (packets : List (List ℕ)). IfSome o
-          (λ (k : KeptPackets). HasPackets k packets) in
+          (λ (k : KeptPackets). KeepsPackets k packets) in
           let items : slice_get (new.pictures.items) place ≡ slice_get (turned r x) place =
           ap (λ (b : Buffer KeptPackets). slice_get (b.items) place) is in
           elim (cases_lt n count) as (λ _. Is (slice_get (new.pictures.items) place)
@@ -129,9 +129,9 @@ begun_holds r new x pictures kept none is begun =
 abbrev changed : SentPackets → KeptPackets → List KeptPackets
 changed r x = take (length (r.pictures.items) - 1) (r.pictures.items) ++ x ∷ []
 
-pub pushed_holds : (r new : SentPackets) (old x : KeptPackets) (before : Pictures) (packets : List (List ℕ))
+pub pushed_holds : (r new : SentPackets) (old x : KeptPackets) (before : PacketsOfPictures) (packets : List (List ℕ))
     (packet : List ℕ) → HoldsPackets r (before ++ packets ∷ [])
-    → last_item (r.pictures.items) ≡ Some old → (HasPackets old packets → HasPackets x (packets ++ packet ∷ []))
+    → last_item (r.pictures.items) ≡ Some old → (KeepsPackets old packets → KeepsPackets x (packets ++ packet ∷ []))
     → new.pictures ≡ buffer (changed r x) (r.pictures.capacity) → new.begun ≡ r.begun
     → HoldsPackets new (before ++ (packets ++ packet ∷ []) ∷ [])
 pushed_holds r new old x before packets packet kept last more is begun =
@@ -144,7 +144,8 @@ pushed_holds r new old x before packets packet kept last more is begun =
     let front = take (length (r.pictures.items) - 1) (r.pictures.items) in
     let long : length front ≡ r.pictures.capacity - 1 = length-take-le (length (r.pictures.items) - 1)
     (r.pictures.items) (omega arith) ∙ ap (λ (k : ℕ). k - 1) r.full in
-    let Is = λ (o : Option KeptPackets) (packets : List (List ℕ)). IfSome o (λ (k : KeptPackets). HasPackets k packets)
+    let Is = λ (o : Option KeptPackets) (packets : List (List ℕ)). IfSome o
+    (λ (k : KeptPackets). KeepsPackets k packets)
     in
     record {
       begun = omega (arith, begun, kept.begun, many, many_before);
@@ -204,7 +205,7 @@ pushed_holds r new old x before packets packet kept last more is begun =
                 in
                 let there : slice_get (r.pictures.items) (n + r.pictures.capacity - r.begun)
                 ≡ Some old = ap (λ (k : ℕ). slice_get (r.pictures.items) k) old_place ∙ last in
-                let had : HasPackets old packets = subst (λ (o : Option KeptPackets). Is o packets) there
+                let had : KeepsPackets old packets = subst (λ (o : Option KeptPackets). Is o packets) there
                 (subst (Is (slice_get (r.pictures.items) (n + r.pictures.capacity - r.begun)))
                 (get_or_push before packets [] n (sym newest)) was) in
                 subst (λ (o : Option KeptPackets). Is o (get_or all n [])) (sym at)

@@ -3,54 +3,54 @@ use Rattle.std.specs.Prelude.{◌≡◌, ℕ, ◌+◌, ◌-◌, ◌<◌, ◌≤�
 use Rattle.circular_buffer.specs.Buffer.{last_item}
 use Rattle.call_rings.specs.declared.sent_packets.SentPackets.{SentPackets}
 use Rattle.call_rings.specs.declared.kept.KeptPackets.{KeptPackets}
-use Rattle.call_rings.specs.Kept.{HasPackets, TakesUpTo, count_in, size_in}
+use Rattle.call_rings.specs.Kept.{KeepsPackets, TakesUpTo, count_in, size_in}
 
 -- pictures, oldest first, each by its packets
-abbrev pub Pictures : Type 0
-Pictures = List (List (List ℕ))
+abbrev pub PacketsOfPictures : Type 0
+PacketsOfPictures = List (List (List ℕ))
 
 -- how many pictures a ring keeps, and how many were begun so far
-abbrev pub period_of : SentPackets → ℕ
-period_of ring = ring.pictures.capacity
+abbrev pub ring_period : SentPackets → ℕ
+ring_period ring = ring.pictures.capacity
 
 abbrev pub begun_of : SentPackets → ℕ
 begun_of ring = ring.begun
 
 -- how many bytes and how many packets there may be of each picture
-abbrev pub room_of : SentPackets → ℕ
-room_of ring = ring.room
+abbrev pub ring_room : SentPackets → ℕ
+ring_room ring = ring.room
 
 abbrev pub most_of : SentPackets → ℕ
 most_of ring = ring.most
 
 -- the place of picture n among those that are kept: the newest one has the last place
-abbrev pub place_of : SentPackets → ℕ → ℕ
-place_of ring n = n + period_of ring - ring.begun
+abbrev pub ring_place : SentPackets → ℕ → ℕ
+ring_place ring n = n + ring_period ring - ring.begun
 
 -- these are the pictures so far, and the ring has the packets of the last ones
-pub record HoldsPackets (ring : SentPackets) (pictures : Pictures) : Type 0 where
+pub record HoldsPackets (ring : SentPackets) (pictures : PacketsOfPictures) : Type 0 where
   pub begun : ring.begun ≡ length pictures
-  pub each : (n : ℕ) → n < length pictures → length pictures ≤ n + period_of ring
-      → IfSome (slice_get ring.pictures.items (place_of ring n))
-      (λ kept. HasPackets kept (slice_index_or pictures n []))
+  pub each : (n : ℕ) → n < length pictures → length pictures ≤ n + ring_period ring
+      → IfSome (slice_get ring.pictures.items (ring_place ring n))
+      (λ kept. KeepsPackets kept (slice_index_or pictures n []))
 
 -- of this many pictures, number n is among the last ones
 abbrev pub is_among_last : ℕ → ℕ → ℕ → Bool
 is_among_last period count n = nat_lt n count && nat_le count (n + period)
 
 -- what is kept of picture n where it is among the last ones, and nothing of any other
-abbrev pub picture_at : SentPackets → ℕ → Option KeptPackets
-picture_at ring n =
-    if is_among_last (period_of ring) ring.begun n
-    then slice_get ring.pictures.items (place_of ring n) else None
+abbrev pub ring_picture : SentPackets → ℕ → Option KeptPackets
+ring_picture ring n =
+    if is_among_last (ring_period ring) ring.begun n
+    then slice_get ring.pictures.items (ring_place ring n) else None
 
 -- the packets of picture n where it is among the last ones, and none of any other
-abbrev pub kept_of : ℕ → Pictures → ℕ → List (List ℕ)
+abbrev pub kept_of : ℕ → PacketsOfPictures → ℕ → List (List ℕ)
 kept_of period pictures n =
     if is_among_last period (length pictures) n then slice_index_or pictures n [] else []
 
 -- a picture was begun, and has room for one more packet, of this many bytes
-pub record HasRoom (ring : SentPackets) (size : ℕ) : Type 0 where
+pub record HasRoomForPacket (ring : SentPackets) (size : ℕ) : Type 0 where
   pub begun : 0 < ring.begun
   pub newest : IfSome (last_item ring.pictures.items)
       (λ kept. (count_in kept < ring.most) × (size_in kept + size ≤ ring.room))
@@ -58,11 +58,11 @@ pub record HasRoom (ring : SentPackets) (size : ℕ) : Type 0 where
 -- There is a place for each picture that the ring may keep, with memory for as many bytes and
 -- packets as it may have. None has more of either than its memory was taken for.
 pub record HasMemory (ring : SentPackets) : Type 0 where
-  pub places : length ring.pictures.items ≡ period_of ring
-  pub each : All (TakesUpTo (room_of ring) (most_of ring)) ring.pictures.items
+  pub places : length ring.pictures.items ≡ ring_period ring
+  pub each : All (TakesUpTo (ring_room ring) (most_of ring)) ring.pictures.items
 
 -- the ring has these sizes
 pub record HasSizes (ring : SentPackets) (period room most : ℕ) : Type 0 where
-  pub period_is : period_of ring ≡ period
+  pub period_is : ring_period ring ≡ period
   pub room_is : ring.room ≡ room
   pub most_is : ring.most ≡ most

@@ -2,7 +2,7 @@
 use Rattle.std.specs.Prelude.{◌≡◌, ℕ, ◌+◌, ◌^◌, ◌<◌, ◌≤◌, List, length, take, slice_index}
 use Rattle.std.specs.List.{concat}
 use Rattle.std.specs.Vec.{vec_capacity}
-use Rattle.call_rings.specs.Parts.{size_of}
+use Rattle.call_rings.specs.Parts.{total_size}
 use Rattle.call_rings.specs.declared.kept.KeptPackets.{KeptPackets}
 
 -- how many packets are kept, and how many bytes they have together
@@ -13,10 +13,10 @@ abbrev pub size_in : KeptPackets → ℕ
 size_in kept = length kept.bytes.items
 
 -- these packets are kept
-pub record HasPackets (kept : KeptPackets) (packets : List (List ℕ)) : Type 0 where
+pub record KeepsPackets (kept : KeptPackets) (packets : List (List ℕ)) : Type 0 where
   pub bytes : kept.bytes.items ≡ concat packets
   pub count : count_in kept ≡ length packets
-  pub ends : (i : ℕ) → i < length packets → slice_index kept.ends.items i ≡ size_of (take (i + 1) packets)
+  pub ends : (i : ℕ) → i < length packets → slice_index kept.ends.items i ≡ total_size (take (i + 1) packets)
 
 -- memory is taken for this many bytes and packets, and what is kept is no more
 pub record TakesUpTo (room most : ℕ) (kept : KeptPackets) : Type 0 where

@@ -15,7 +15,7 @@ pub struct KeptPackets {
 }
 
 impl KeptPackets {
-    ghost use Rattle.call_rings.specs.Kept.{HasPackets, HasPlace, count_in, size_in, TakesUpTo};
+    ghost use Rattle.call_rings.specs.Kept.{KeepsPackets, HasPlace, count_in, size_in, TakesUpTo};
 
     /// No packet yet, and room for `most` packets of `room` bytes together. No byte of it is
     /// touched before a packet lies on it.
@@ -30,7 +30,7 @@ impl KeptPackets {
 
     /// Forgets all packets, and keeps the memory.
     pub fn clear(&mut self)
-        ensures none { HasPackets self.new [] }
+        ensures none { KeepsPackets self.new [] }
         ensures place { (room most : ℕ) → TakesUpTo room most self.old → TakesUpTo room most self.new }
     {
         self.bytes.clear();
@@ -40,8 +40,8 @@ impl KeptPackets {
     /// One more packet.
     pub fn push(&mut self, packet: &[u8])
         requires { HasPlace self.old (length packet.now) }
-        ensures pushes { (packets : List (List ℕ)) → HasPackets self.old packets
-            → HasPackets self.new (packets ++ packet.now ∷ []) }
+        ensures pushes { (packets : List (List ℕ)) → KeepsPackets self.old packets
+            → KeepsPackets self.new (packets ++ packet.now ∷ []) }
         ensures place { (room most : ℕ) → TakesUpTo room most self.old
             → size_in self.old + length packet.now ≤ room → count_in self.old < most
             → TakesUpTo room most self.new }
@@ -59,7 +59,7 @@ impl KeptPackets {
 
     /// Packet `i`.
     pub fn packet(&self, i: u32) -> Option<&[u8]>
-        ensures { (packets : List (List ℕ)) → HasPackets self.now packets
+        ensures { (packets : List (List ℕ)) → KeepsPackets self.now packets
             → option_map (λ packet. packet.now) result ≡ slice_get packets i }
     {
         let to = *self.ends.get(i as usize)? as usize;

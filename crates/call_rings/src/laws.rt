@@ -8,18 +8,18 @@ ghost use Rattle.picture_header.specs.declared.header.Header.{Header};
 ghost use Rattle.picture_header.specs.Ranges.{IsHeader};
 ghost use Rattle.packet_cutter.specs.Packets.{ArePacketsOf};
 ghost use Rattle.call_rings.specs.declared.sent_packets.SentPackets.{SentPackets};
-ghost use Rattle.call_rings.specs.Parts.{size_of};
-ghost use Rattle.call_rings.specs.Keeping.{Pictures, room_of, most_of, HoldsPackets, HasRoom};
+ghost use Rattle.call_rings.specs.Parts.{total_size};
+ghost use Rattle.call_rings.specs.Keeping.{PacketsOfPictures, ring_room, most_of, HoldsPackets, HasRoomForPacket};
 
 use packet_cutter::laws::packet_is_text;
 
 /// There is room for a packet where the newest picture has fewer than the most, and its bytes with
 /// the packet's are no more than a picture's room.
 pub fn has_room()
-    ensures { (ring : SentPackets) (before : Pictures) (packets : List (List ℕ))
+    ensures { (ring : SentPackets) (before : PacketsOfPictures) (packets : List (List ℕ))
         (size : ℕ)
         → HoldsPackets ring (before ++ packets ∷ []) → length packets < most_of ring
-        → size_of packets + size ≤ room_of ring → HasRoom ring size }
+        → total_size packets + size ≤ ring_room ring → HasRoomForPacket ring size }
 {}
 
 /// A picture's packets have at most 1,200 bytes together for each of its macroblocks, and are no
@@ -28,7 +28,7 @@ pub fn room_of_a_picture()
     ensures bytes { (number sequence : ℕ) (h : Header) (limit : ℕ) (mbs : List Mb)
         (packets : List (List ℕ))
         → IsHeader h → All HasWholeBlocks mbs → ArePacketsOf number sequence h limit mbs packets
-        → size_of packets ≤ 1200 * length mbs }
+        → total_size packets ≤ 1200 * length mbs }
     ensures count { (number sequence : ℕ) (h : Header) (limit : ℕ) (mbs : List Mb)
         (packets : List (List ℕ))
         → IsHeader h → All HasWholeBlocks mbs → ArePacketsOf number sequence h limit mbs packets
@@ -43,5 +43,5 @@ pub fn room_of_a_picture()
 /// Packets one after the other have room where all of them together have.
 pub fn one_after_the_other()
     ensures { (packets : List (List ℕ)) (i : ℕ) → i < length packets
-        → size_of (take i packets) + length (slice_index_or packets i []) ≤ size_of packets }
+        → total_size (take i packets) + length (slice_index_or packets i []) ≤ total_size packets }
 {}

@@ -25,9 +25,9 @@ pub struct SentPackets {
 }
 
 impl SentPackets {
-    ghost use Rattle.call_rings.specs.Keeping.{Pictures, period_of, room_of, most_of, begun_of};
-    ghost use Rattle.call_rings.specs.Keeping.{HoldsPackets, kept_of, is_among_last, HasRoom, HasSizes};
-    ghost use Rattle.call_rings.specs.Keeping.{HasMemory, picture_at};
+    ghost use Rattle.call_rings.specs.Keeping.{PacketsOfPictures, ring_period, ring_room, most_of, begun_of};
+    ghost use Rattle.call_rings.specs.Keeping.{HoldsPackets, kept_of, is_among_last, HasRoomForPacket, HasSizes};
+    ghost use Rattle.call_rings.specs.Keeping.{HasMemory, ring_picture};
 
     /// A ring for `pictures` pictures, none begun yet, with room for `most` packets of each, of
     /// `room` bytes together.
@@ -62,10 +62,10 @@ impl SentPackets {
     /// Begins the next picture, which has no packet yet.
     pub fn begin(&mut self)
         requires { begun_of self.old + 1 < 2 ^ 32 }
-        ensures begins { (pictures : Pictures) → HoldsPackets self.old pictures
+        ensures begins { (pictures : PacketsOfPictures) → HoldsPackets self.old pictures
             → HoldsPackets self.new (pictures ++ [] ∷ []) }
         ensures sizes { let ring = self.old in
-            HasSizes self.new (period_of ring) (room_of ring) (most_of ring) }
+            HasSizes self.new (ring_period ring) (ring_room ring) (most_of ring) }
         ensures begun { begun_of self.new ≡ begun_of self.old + 1 }
         ensures memory { HasMemory self.new }
     {
@@ -78,12 +78,12 @@ impl SentPackets {
 
     /// One more packet of the newest picture.
     pub fn push(&mut self, packet: &[u8])
-        requires { HasRoom self.old (length packet.now) }
-        ensures pushes { (before : Pictures) (packets : List (List ℕ))
+        requires { HasRoomForPacket self.old (length packet.now) }
+        ensures pushes { (before : PacketsOfPictures) (packets : List (List ℕ))
             → HoldsPackets self.old (before ++ packets ∷ [])
             → HoldsPackets self.new (before ++ (packets ++ packet.now ∷ []) ∷ []) }
         ensures sizes { let ring = self.old in
-            HasSizes self.new (period_of ring) (room_of ring) (most_of ring) }
+            HasSizes self.new (ring_period ring) (ring_room ring) (most_of ring) }
         ensures begun { begun_of self.new ≡ begun_of self.old }
         ensures memory { HasMemory self.new }
     {
@@ -95,8 +95,8 @@ impl SentPackets {
 
     /// How many packets there are of picture `n`: none where it isn't among the last ones.
     pub fn count(&self, n: u32) -> u32
-        ensures packets { (pictures : Pictures) → HoldsPackets self.now pictures
-            → result ≡ length (kept_of (period_of self.now) pictures n) }
+        ensures packets { (pictures : PacketsOfPictures) → HoldsPackets self.now pictures
+            → result ≡ length (kept_of (ring_period self.now) pictures n) }
         ensures few { result ≤ most_of self.now }
     {
         match self.kept(n) {
@@ -107,16 +107,16 @@ impl SentPackets {
 
     /// Packet `i` of picture `n`.
     pub fn packet(&self, n: u32, i: u32) -> Option<&[u8]>
-        ensures { (pictures : Pictures) → HoldsPackets self.now pictures
+        ensures { (pictures : PacketsOfPictures) → HoldsPackets self.now pictures
             → option_map (λ packet. packet.now) result
-            ≡ slice_get (kept_of (period_of self.now) pictures n) i }
+            ≡ slice_get (kept_of (ring_period self.now) pictures n) i }
     {
         self.kept(n)?.packet(i)
     }
 
     // The packets of picture `n`, where it is among the last ones.
     fn kept(&self, n: u32) -> Option<&KeptPackets>
-        ensures { option_copied result ≡ picture_at self.now n }
+        ensures { option_copied result ≡ ring_picture self.now n }
     {
         if self.has(n) {
             let place = n as usize + self.pictures.capacity() - self.begun as usize;
@@ -128,7 +128,7 @@ impl SentPackets {
 
     // Picture `n` is among the last ones.
     fn has(&self, n: u32) -> bool
-        ensures { result ≡ is_among_last (period_of self.now) (begun_of self.now) n }
+        ensures { result ≡ is_among_last (ring_period self.now) (begun_of self.now) n }
     {
         n < self.begun && (self.begun as usize) <= n as usize + self.pictures.capacity()
     }

@@ -6,21 +6,21 @@ use Rattle.stream_choice.specs.Choice.{taker_of}
 use Rattle.stream_choice.specs.Granting.{is_granted}
 use Rattle.session_intake.specs.declared.budgets.Budgets.{Budgets}
 use Rattle.session_intake.specs.declared.seen.Seen.{Seen}
-use Rattle.session_intake.specs.Asked.{AskedStand, asked_of, with_asked}
+use Rattle.session_intake.specs.Asked.{AskedStand, look_times_of, with_asked}
 use Rattle.call_session.specs.declared.rules.Rules.{Rules}
-use Rattle.call_session.specs.Sessions.{State, asked_for, is_looked_at, taker_in}
+use Rattle.call_session.specs.Sessions.{SessionState, asked_for, is_looked_at, taker_in}
 use Rattle.call_session.specs.Ruled.{StateStands}
 
-pub taken_by : (r : Rules) (seen : Seen) (st : State) (taker : Taker) → StateStands r st
+pub taken_by : (r : Rules) (seen : Seen) (st : SessionState) (taker : Taker) → StateStands r st
     → taker ≡ taker_of r.following.streams seen.source r.time → taker ≡ taker_in seen st
 taken_by r seen st taker s e =
     e ∙ ap (λ (x : Streams). taker_of x seen.source r.time) s.follows.streams
     ∙ ap (taker_of st.follows.streams seen.source) s.time
 
-pub looked : (r : Rules) (taker : Taker) (st : State) (granted b : Bool) → StateStands r st
-    → granted ≡ is_granted 12000 r.time (asked_of taker st.asked) → granted ≡ b → b ≡ is_looked_at taker st
+pub looked : (r : Rules) (taker : Taker) (st : SessionState) (granted b : Bool) → StateStands r st
+    → granted ≡ is_granted 12000 r.time (look_times_of taker st.asked) → granted ≡ b → b ≡ is_looked_at taker st
 looked r taker st granted b s e g =
-    sym g ∙ e ∙ ap (λ (n : ℕ). is_granted 12000 n (asked_of taker st.asked)) s.time
+    sym g ∙ e ∙ ap (λ (n : ℕ). is_granted 12000 n (look_times_of taker st.asked)) s.time
 
 -- the rules with this budget, that was asked for it
 abbrev pub with_budgets : Rules → Budgets → Rules
@@ -34,7 +34,7 @@ with_budgets r b =
       counts = r.counts;
     }
 
-pub asked : (r : Rules) (b : Budgets) (taker : Taker) (st : State) → StateStands r st
+pub asked : (r : Rules) (b : Budgets) (taker : Taker) (st : SessionState) → StateStands r st
     → AskedStand b (with_asked taker r.time st.asked) → StateStands (with_budgets r b) (asked_for taker st)
 asked r b taker st s a =
     record {

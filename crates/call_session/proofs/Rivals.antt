@@ -4,11 +4,11 @@ use Rattle.stream_choice.specs.declared.streams.Streams.{Streams}
 use Rattle.stream_choice.specs.declared.streams.Taker.{Taker}
 use Rattle.stream_choice.specs.Choice.{is_live_one}
 use Rattle.call_session.specs.declared.rules.Rules.{Rules}
-use Rattle.call_session.specs.Sessions.{State, is_beside, is_rival}
+use Rattle.call_session.specs.Sessions.{SessionState, is_beside, is_rival}
 use Rattle.call_session.specs.Ruled.{StateStands}
 
 -- by what is kept it does as by what came
-pub same : (r : Rules) (taker : Taker) (st : State) (live beside : Bool) → StateStands r st
+pub same : (r : Rules) (taker : Taker) (st : SessionState) (live beside : Bool) → StateStands r st
     → live ≡ is_live_one r.following.streams.followed r.time → beside ≡ is_beside taker live
     → is_rival taker st ≡ beside
 same r taker st live beside s l b =

@@ -1,7 +1,7 @@
 -- A session, by what came and what was played. Times are nanoseconds; lists have the newest first.
 use Rattle.std.specs.Prelude.{ℕ, ◌==◌, max, min, Bool, true, false, List, [], ◌∷◌, Option, Some, None, Result, Ok, Err, if◌then◌else◌}
 use Rattle.rtp_source.specs.Source.{renamed}
-use Rattle.receiver_end.specs.Answers.{mark_of}
+use Rattle.receiver_end.specs.Answers.{mark_from}
 use Rattle.receiver_end.specs.State.{mark_after}
 use Rattle.stream_choice.specs.declared.streams.Run.{Run}
 use Rattle.stream_choice.specs.declared.streams.Taker.{Taker}
@@ -13,44 +13,44 @@ use Rattle.session_intake.specs.declared.seen.Seen.{Seen}
 use Rattle.session_intake.specs.declared.seen.Cause.{Cause}
 use Rattle.session_intake.specs.declared.seen.Cause.TheVariants as causes
 use Rattle.session_intake.specs.Asked as budgets
-use Rattle.session_intake.specs.Asked.{asked_of, no_asked, with_asked}
+use Rattle.session_intake.specs.Asked.{look_times_of, no_asked, with_asked}
 use Rattle.session_intake.specs.Counts as counting
 use Rattle.session_intake.specs.Datagrams.{seen_in}
-use Rattle.session_runs.specs.Histories.{Answer, Config, entries_in}
-use Rattle.session_runs.specs.Lines.{line_of, run_of}
+use Rattle.session_runs.specs.Histories.{Answer, Config, history_entries}
+use Rattle.session_runs.specs.Lines.{line_of, taker_run}
 use Rattle.packet_gaps.specs.declared.gaps.Nack.{Nack}
-use Rattle.session_runs.specs.Following.{Follows, after_asked, after_bye, after_play_of, after_taker, answer_of, nack_of_followed, noted, run_due}
+use Rattle.session_runs.specs.Following.{Follows, after_asked, after_bye, after_play_of, after_taker, taker_answer, nack_of_followed, source_noted, run_due}
 use Rattle.session_runs.specs.Followed.{begun_follows}
 
 -- What a session is at: the time; the streams and what came of them; when packets were asked for;
 -- when another stream came beside the one that is followed; and what is counted.
-pub record State : Type 0 where
+pub record SessionState : Type 0 where
   pub now : ℕ
   pub follows : Follows
-  pub asked : budgets.Asked
+  pub asked : budgets.LookTimes
   pub rivals : List ℕ
   pub counts : Counts
 
-abbrev pub started : State
-started =
+abbrev pub state_at_start : SessionState
+state_at_start =
     record {
       now = 0;
       follows = begun_follows 0;
       asked = no_asked;
       rivals = [];
-      counts = counting.none;
+      counts = counting.nothing_counted;
     }
 
 -- ---- the clock
 
 -- The clock doesn't go back: a time before the last one counts as that. It stands at 2^62 - 1.
-abbrev pub time_of : ℕ → ℕ → ℕ
-time_of last now = max last (min now 4611686018427387903)
+abbrev pub session_time : ℕ → ℕ → ℕ
+session_time last now = max last (min now 4611686018427387903)
 
-abbrev pub at : ℕ → State → State
+abbrev pub at : ℕ → SessionState → SessionState
 at now st =
     record {
-      now = time_of st.now now;
+      now = session_time st.now now;
       follows = st.follows;
       asked = st.asked;
       rivals = st.rivals;
@@ -64,7 +64,7 @@ pub data Outcome : Type 0 where
   Dropped : (cause : Cause) → Outcome
   Taken : (run : Run) (source : ℕ) (answer : Answer) → Outcome
 
-abbrev pub dropped : Cause → State → State
+abbrev pub dropped : Cause → SessionState → SessionState
 dropped cause st =
     record {
       now = st.now;
@@ -82,7 +82,7 @@ is_beside takers.Followed live = false
 is_beside takers.Tried live = false
 is_beside takers.Begins live = false
 
-abbrev pub is_rival : Taker → State → Bool
+abbrev pub is_rival : Taker → SessionState → Bool
 is_rival taker st = is_beside taker (choice.is_live_one st.follows.streams.followed st.now)
 
 -- that is told once a second
@@ -94,7 +94,7 @@ abbrev pub is_told : Bool → ℕ → List ℕ → Bool
 is_told false now rivals = false
 is_told true now rivals = is_granted 1 now rivals
 
-abbrev pub rivals_noted : Taker → State → State
+abbrev pub rivals_noted : Taker → SessionState → SessionState
 rivals_noted taker st =
     record {
       now = st.now;
@@ -109,25 +109,25 @@ counts_after None counts = counting.after_drop causes.OtherStream counts
 counts_after (Some run) counts = counting.after_taken counts
 
 -- a packet that is looked at
-abbrev pub after_granted : Config → Seen → Taker → List ℕ → State → State
+abbrev pub after_granted : Config → Seen → Taker → List ℕ → SessionState → SessionState
 after_granted c seen taker own st =
     record {
       now = st.now;
-      follows = after_taker c taker seen.packet own st.now (noted seen.source st.now st.follows);
+      follows = after_taker c taker seen.packet own st.now (source_noted seen.source st.now st.follows);
       asked = st.asked;
       rivals = rivals_after (is_rival taker st) st.now st.rivals;
-      counts = counts_after (run_of taker) st.counts;
+      counts = counts_after (taker_run taker) st.counts;
     }
 
-abbrev pub after_grant : Config → Seen → Taker → List ℕ → Bool → State → State
+abbrev pub after_grant : Config → Seen → Taker → List ℕ → Bool → SessionState → SessionState
 after_grant c seen taker own true st = after_granted c seen taker own st
 after_grant c seen taker own false st = dropped causes.TooFast st
 
 -- Its budget has one more: of the stream that is followed, of the former one, or of all others.
-abbrev pub is_looked_at : Taker → State → Bool
-is_looked_at taker st = is_granted 12000 st.now (asked_of taker st.asked)
+abbrev pub is_looked_at : Taker → SessionState → Bool
+is_looked_at taker st = is_granted 12000 st.now (look_times_of taker st.asked)
 
-abbrev pub asked_for : Taker → State → State
+abbrev pub asked_for : Taker → SessionState → SessionState
 asked_for taker st =
     record {
       now = st.now;
@@ -137,19 +137,19 @@ asked_for taker st =
       counts = st.counts;
     }
 
-abbrev pub after_seen : Config → Seen → Taker → List ℕ → State → State
+abbrev pub after_seen : Config → Seen → Taker → List ℕ → SessionState → SessionState
 after_seen c seen taker own st =
     after_grant c seen taker own (is_looked_at taker st) (asked_for taker st)
 
-abbrev pub taker_in : Seen → State → Taker
+abbrev pub taker_in : Seen → SessionState → Taker
 taker_in seen st = choice.taker_of st.follows.streams seen.source st.now
 
-abbrev pub after_reading : Config → Result Seen Cause → List ℕ → State → State
+abbrev pub after_reading : Config → Result Seen Cause → List ℕ → SessionState → SessionState
 after_reading c (Err cause) own st = dropped cause st
 after_reading c (Ok seen) own st = after_seen c seen (taker_in seen st) own st
 
 -- Nothing is asked of a budget before a datagram is known to be a packet of the call's pictures.
-abbrev pub after_datagram : Config → List ℕ → ℕ → State → State
+abbrev pub after_datagram : Config → List ℕ → ℕ → SessionState → SessionState
 after_datagram c bytes now st =
     after_reading c (seen_in c.params bytes) (renamed bytes) (at now st)
 
@@ -162,54 +162,54 @@ only_of source (Ok seen) = if seen.source == source then Ok seen else Err causes
 abbrev pub seen_of_one : Config → ℕ → List ℕ → Result Seen Cause
 seen_of_one c source bytes = only_of source (seen_in c.params bytes)
 
-abbrev pub after_datagram_of : Config → ℕ → List ℕ → ℕ → State → State
+abbrev pub after_datagram_of : Config → ℕ → List ℕ → ℕ → SessionState → SessionState
 after_datagram_of c source bytes now st =
     after_reading c (seen_of_one c source bytes) (renamed bytes) (at now st)
 
 -- ---- what is said of them
 
-abbrev pub outcome_of_run : Config → Seen → Taker → Option Run → List ℕ → State → Outcome
+abbrev pub outcome_of_run : Config → Seen → Taker → Option Run → List ℕ → SessionState → Outcome
 outcome_of_run c seen taker None own st = Dropped causes.OtherStream
 outcome_of_run c seen taker (Some run) own st =
     Taken run seen.source
-    (answer_of c taker run seen.packet own st.now (noted seen.source st.now st.follows))
+    (taker_answer c taker run seen.packet own st.now (source_noted seen.source st.now st.follows))
 
-abbrev pub outcome_of_grant : Config → Seen → Taker → List ℕ → Bool → State → Outcome
-outcome_of_grant c seen taker own true st = outcome_of_run c seen taker (run_of taker) own st
+abbrev pub outcome_of_grant : Config → Seen → Taker → List ℕ → Bool → SessionState → Outcome
+outcome_of_grant c seen taker own true st = outcome_of_run c seen taker (taker_run taker) own st
 outcome_of_grant c seen taker own false st = Dropped causes.TooFast
 
-abbrev pub outcome_of_seen : Config → Seen → Taker → List ℕ → State → Outcome
+abbrev pub outcome_of_seen : Config → Seen → Taker → List ℕ → SessionState → Outcome
 outcome_of_seen c seen taker own st =
     outcome_of_grant c seen taker own (is_looked_at taker st) st
 
-abbrev pub outcome_of_reading : Config → Result Seen Cause → List ℕ → State → Outcome
+abbrev pub outcome_of_reading : Config → Result Seen Cause → List ℕ → SessionState → Outcome
 outcome_of_reading c (Err cause) own st = Dropped cause
 outcome_of_reading c (Ok seen) own st = outcome_of_seen c seen (taker_in seen st) own st
 
-abbrev pub outcome_of : Config → List ℕ → ℕ → State → Outcome
+abbrev pub outcome_of : Config → List ℕ → ℕ → SessionState → Outcome
 outcome_of c bytes now st =
     outcome_of_reading c (seen_in c.params bytes) (renamed bytes) (at now st)
 
-abbrev pub outcome_of_one : Config → ℕ → List ℕ → ℕ → State → Outcome
+abbrev pub outcome_of_one : Config → ℕ → List ℕ → ℕ → SessionState → Outcome
 outcome_of_one c source bytes now st =
     outcome_of_reading c (seen_of_one c source bytes) (renamed bytes) (at now st)
 
 -- whether it is told, with a packet, that another stream came beside a live one
-abbrev pub told_of_grant : Taker → Bool → State → Bool
+abbrev pub told_of_grant : Taker → Bool → SessionState → Bool
 told_of_grant taker true st = is_told (is_rival taker st) st.now st.rivals
 told_of_grant taker false st = false
 
-abbrev pub told_of_seen : Taker → State → Bool
+abbrev pub told_of_seen : Taker → SessionState → Bool
 told_of_seen taker st = told_of_grant taker (is_looked_at taker st) st
 
-abbrev pub told_of_reading : Result Seen Cause → State → Bool
+abbrev pub told_of_reading : Result Seen Cause → SessionState → Bool
 told_of_reading (Err cause) st = false
 told_of_reading (Ok seen) st = told_of_seen (taker_in seen st) st
 
-abbrev pub told_of : Config → List ℕ → ℕ → State → Bool
-told_of c bytes now st = told_of_reading (seen_in c.params bytes) (at now st)
+abbrev pub told_of_datagram : Config → List ℕ → ℕ → SessionState → Bool
+told_of_datagram c bytes now st = told_of_reading (seen_in c.params bytes) (at now st)
 
-abbrev pub told_of_one : Config → ℕ → List ℕ → ℕ → State → Bool
+abbrev pub told_of_one : Config → ℕ → List ℕ → ℕ → SessionState → Bool
 told_of_one c source bytes now st = told_of_reading (seen_of_one c source bytes) (at now st)
 
 -- ---- plays
@@ -217,9 +217,9 @@ told_of_one c source bytes now st = told_of_reading (seen_of_one c source bytes)
 abbrev pub counts_of_play : Config → Option Run → Follows → Counts → Counts
 counts_of_play c None f counts = counts
 counts_of_play c (Some run) f counts =
-    counting.after_play run (mark_of (mark_after c.params (entries_in c (line_of run f.lines)))) counts
+    counting.counts_after_play run (mark_from (mark_after c.params (history_entries c (line_of run f.lines)))) counts
 
-abbrev pub after_played : Config → Option Run → State → State
+abbrev pub after_played : Config → Option Run → SessionState → SessionState
 after_played c run st =
     record {
       now = st.now;
@@ -230,15 +230,15 @@ after_played c run st =
     }
 
 -- the run of which a picture is played, if one is due
-abbrev pub played_run : Config → State → Option Run
+abbrev pub played_run : Config → SessionState → Option Run
 played_run c st = run_due c st.now st.follows
 
-abbrev pub after_turn : Config → ℕ → State → State
+abbrev pub after_turn : Config → ℕ → SessionState → SessionState
 after_turn c now st = after_played c (played_run c (at now st)) (at now st)
 
 -- ---- asking again, ends, and calls that begin anew
 
-abbrev pub with_follows : Follows → State → State
+abbrev pub with_follows : Follows → SessionState → SessionState
 with_follows f st =
     record {
       now = st.now;
@@ -249,18 +249,18 @@ with_follows f st =
     }
 
 -- The next packets that are asked for are those of the stream that is followed.
-abbrev pub missing_at : Config → ℕ → State → Option Nack
+abbrev pub missing_at : Config → ℕ → SessionState → Option Nack
 missing_at c round_trip st = nack_of_followed c round_trip st.now st.follows
 
-abbrev pub after_missing : Config → ℕ → State → State
+abbrev pub after_missing : Config → ℕ → SessionState → SessionState
 after_missing c round_trip st = with_follows (after_asked c round_trip st.now st.follows) st
 
 -- the stream with this SSRC has ended
-abbrev pub after_ended : ℕ → State → State
+abbrev pub after_ended : ℕ → SessionState → SessionState
 after_ended source st = with_follows (after_bye source st.now st.follows) st
 
 -- No stream has a run any more. Clock, budgets, what was told and what was counted stay.
-abbrev pub after_anew : State → State
+abbrev pub after_anew : SessionState → SessionState
 after_anew st = with_follows (begun_follows st.now) st
 
 -- ---- the whole
@@ -268,17 +268,17 @@ after_anew st = with_follows (begun_follows st.now) st
 -- A datagram came then, or one of a call in which packets of one stream alone are looked at; or the
 -- next picture was to be played if it was due; or it was asked once which packets to ask for again,
 -- where the answer takes so long; or the stream with this SSRC had ended; or the call began anew.
-pub data Entry : Type 0 where
-  Datagram : (bytes : List ℕ) (now : ℕ) → Entry
-  DatagramOf : (source : ℕ) (bytes : List ℕ) (now : ℕ) → Entry
-  Turn : (now : ℕ) → Entry
-  Asked : (round_trip now : ℕ) → Entry
-  Ended : (source now : ℕ) → Entry
-  Anew : (now : ℕ) → Entry
+pub data SessionEntry : Type 0 where
+  Datagram : (bytes : List ℕ) (now : ℕ) → SessionEntry
+  DatagramOf : (source : ℕ) (bytes : List ℕ) (now : ℕ) → SessionEntry
+  Turn : (now : ℕ) → SessionEntry
+  Asked : (round_trip now : ℕ) → SessionEntry
+  Ended : (source now : ℕ) → SessionEntry
+  Anew : (now : ℕ) → SessionEntry
 
 -- the session after these
-abbrev pub session_run : Config → List Entry → State
-session_run c [] = started
+abbrev pub session_run : Config → List SessionEntry → SessionState
+session_run c [] = state_at_start
 session_run c (Datagram bytes now ∷ past) = after_datagram c bytes now (session_run c past)
 session_run c (DatagramOf source bytes now ∷ past) =
     after_datagram_of c source bytes now (session_run c past)

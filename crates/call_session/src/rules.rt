@@ -4,17 +4,17 @@ ghost use Rattle.h263_planes.specs.Lent.{picture};
 ghost use Rattle.h263_planes.specs.Samples.{IsPicture};
 ghost use Rattle.receiver_end.specs.State.{run_of as receivers_run};
 ghost use Rattle.stream_choice.specs.declared.streams.Taker.{Taker};
-ghost use Rattle.stream_choice.specs.Choice.{source_in};
+ghost use Rattle.stream_choice.specs.Choice.{run_source};
 ghost use Rattle.session_intake.specs.Settings.{IsSettings};
-ghost use Rattle.session_runs.specs.Histories.{entries_in};
+ghost use Rattle.session_runs.specs.Histories.{history_entries};
 ghost use Rattle.session_runs.specs.Following.{due_next};
-ghost use Rattle.session_runs.specs.Lines.{run_of};
+ghost use Rattle.session_runs.specs.Lines.{taker_run};
 ghost use Rattle.session_runs.specs.Kept.{config_in};
-ghost use Rattle.call_session.specs.Sessions.{State, after_anew, after_ended, after_granted, after_missing};
+ghost use Rattle.call_session.specs.Sessions.{SessionState, after_anew, after_ended, after_granted, after_missing};
 ghost use Rattle.call_session.specs.Sessions.{after_played, after_seen, at, dropped, missing_at};
 ghost use Rattle.call_session.specs.Sessions.{is_beside, is_rival, is_told, outcome_of_run, outcome_of_seen};
-ghost use Rattle.call_session.specs.Sessions.{played_run, rivals_noted, started, taker_in, told_of_seen};
-ghost use Rattle.call_session.specs.Ruled.{IsRules, IsRunPlayed, IsVerdict, StateStands, verdict_dropped};
+ghost use Rattle.call_session.specs.Sessions.{played_run, rivals_noted, state_at_start, taker_in, told_of_seen};
+ghost use Rattle.call_session.specs.Ruled.{AreSessionRules, IsRunPlayed, IsVerdict, StateStands, verdict_dropped};
 
 use crate::verdict::{Arrived, RunPlayed, Taken, Verdict};
 use h263_planes::PictureRef;
@@ -55,9 +55,9 @@ impl Rules {
     /// Nothing came. All memory is taken here.
     pub fn start(alloc: Global, settings: &Settings) -> Result<Rules, OutOfMemory>
         requires { IsSettings settings.now }
-        ensures rules { IfOk result IsRules }
+        ensures rules { IfOk result AreSessionRules }
         ensures settings { IfOk result (λ r. r.settings ≡ settings.now) }
-        ensures stands { IfOk result (λ r. StateStands r started) }
+        ensures stands { IfOk result (λ r. StateStands r state_at_start) }
     {
         let following = Following::start(alloc, settings)?;
         Ok(Rules {
@@ -72,10 +72,10 @@ impl Rules {
 
     /// It is so late now.
     pub fn tick(&mut self, now: u64)
-        requires { IsRules self.old }
-        ensures rules { IsRules self.new }
+        requires { AreSessionRules self.old }
+        ensures rules { AreSessionRules self.new }
         ensures settings { self.new.settings ≡ self.old.settings }
-        ensures stands { (st : State) → StateStands self.old st → StateStands self.new (at now st) }
+        ensures stands { (st : SessionState) → StateStands self.old st → StateStands self.new (at now st) }
     {
         session_runs_laws::kept_later();
         self.time = self.time.max(now.min(LAST));
@@ -83,11 +83,11 @@ impl Rules {
 
     /// A datagram is dropped.
     pub fn drop_for(&mut self, cause: Cause) -> Arrived
-        requires { IsRules self.old }
-        ensures rules { IsRules self.new }
+        requires { AreSessionRules self.old }
+        ensures rules { AreSessionRules self.new }
         ensures settings { self.new.settings ≡ self.old.settings }
         ensures answer { result ≡ verdict_dropped cause }
-        ensures stands { (st : State) → StateStands self.old st
+        ensures stands { (st : SessionState) → StateStands self.old st
             → StateStands self.new (dropped cause st) }
     {
         self.counts.drop_for(cause);
@@ -99,12 +99,12 @@ impl Rules {
 
     // Whether it is told that another stream comes beside a live one: once a second.
     fn tells(&mut self, taker: Taker) -> bool
-        requires { IsRules self.old }
-        ensures rules { IsRules self.new }
+        requires { AreSessionRules self.old }
+        ensures rules { AreSessionRules self.new }
         ensures settings { self.new.settings ≡ self.old.settings }
-        ensures answer { (st : State) → StateStands self.old st
+        ensures answer { (st : SessionState) → StateStands self.old st
             → result ≡ is_told (is_rival taker st) st.now st.rivals }
-        ensures stands { (st : State) → StateStands self.old st
+        ensures stands { (st : SessionState) → StateStands self.old st
             → StateStands self.new (rivals_noted taker st) }
     {
         if is_beside(taker, self.following.is_live(self.time)) {
@@ -116,16 +116,16 @@ impl Rules {
 
     // A packet with this taker is looked at.
     fn follow_granted(&mut self, seen: &Seen, taker: Taker, own: &[u8]) -> Arrived
-        requires rules { IsRules self.old }
+        requires rules { AreSessionRules self.old }
         requires reference { seen.now.packet.reference < self.old.settings.rate.period }
-        ensures rules { IsRules self.new }
+        ensures rules { AreSessionRules self.new }
         ensures settings { self.new.settings ≡ self.old.settings }
-        ensures answer { (st : State) → StateStands self.old st
+        ensures answer { (st : SessionState) → StateStands self.old st
             → IsVerdict self.old.settings.params.clock result.verdict
-            (outcome_of_run (config_in self.old.settings) seen.now taker (run_of taker) own.now st) }
-        ensures told { (st : State) → StateStands self.old st
+            (outcome_of_run (config_in self.old.settings) seen.now taker (taker_run taker) own.now st) }
+        ensures told { (st : SessionState) → StateStands self.old st
             → result.is_rival ≡ is_told (is_rival taker st) st.now st.rivals }
-        ensures stands { (st : State) → StateStands self.old st → StateStands self.new
+        ensures stands { (st : SessionState) → StateStands self.old st → StateStands self.new
             (after_granted (config_in self.old.settings) seen.now taker own.now st) }
     {
         let is_rival = self.tells(taker);
@@ -157,16 +157,16 @@ impl Rules {
 
     /// A packet of the call's pictures came, by what it says and as ends read it.
     pub fn follow(&mut self, seen: &Seen, own: &[u8]) -> Arrived
-        requires rules { IsRules self.old }
+        requires rules { AreSessionRules self.old }
         requires reference { seen.now.packet.reference < self.old.settings.rate.period }
-        ensures rules { IsRules self.new }
+        ensures rules { AreSessionRules self.new }
         ensures settings { self.new.settings ≡ self.old.settings }
-        ensures answer { (st : State) → StateStands self.old st
+        ensures answer { (st : SessionState) → StateStands self.old st
             → IsVerdict self.old.settings.params.clock result.verdict
             (outcome_of_seen (config_in self.old.settings) seen.now (taker_in seen.now st) own.now st) }
-        ensures told { (st : State) → StateStands self.old st
+        ensures told { (st : SessionState) → StateStands self.old st
             → result.is_rival ≡ told_of_seen (taker_in seen.now st) st }
-        ensures stands { (st : State) → StateStands self.old st → StateStands self.new
+        ensures stands { (st : SessionState) → StateStands self.old st → StateStands self.new
             (after_seen (config_in self.old.settings) seen.now (taker_in seen.now st) own.now st) }
     {
         let taker = self.following.taker(seen.source, self.time);
@@ -179,8 +179,8 @@ impl Rules {
 
     /// When something is due next, as far as that is known.
     pub fn due(&self) -> Option<u64>
-        requires { IsRules self.now }
-        ensures { (st : State) → StateStands self.now st
+        requires { AreSessionRules self.now }
+        ensures { (st : SessionState) → StateStands self.now st
             → result ≡ due_next (config_in self.now.settings) st.follows }
     {
         self.following.due()
@@ -188,13 +188,13 @@ impl Rules {
 
     /// Plays the next picture that is due.
     pub fn play(&mut self) -> Option<RunPlayed>
-        requires { IsRules self.old }
-        ensures rules { IsRules self.new }
+        requires { AreSessionRules self.old }
+        ensures rules { AreSessionRules self.new }
         ensures settings { self.new.settings ≡ self.old.settings }
-        ensures told { (st : State) → StateStands self.old st
+        ensures told { (st : SessionState) → StateStands self.old st
             → IsRunPlayed (config_in self.old.settings) st
             (played_run (config_in self.old.settings) st) result }
-        ensures stands { (st : State) → StateStands self.old st → StateStands self.new
+        ensures stands { (st : SessionState) → StateStands self.old st → StateStands self.new
             (after_played (config_in self.old.settings)
             (played_run (config_in self.old.settings) st) st) }
     {
@@ -209,12 +209,12 @@ impl Rules {
 
     /// The next packets to ask for of the stream that is followed.
     pub fn missing(&mut self, round_trip: u64) -> Option<Nack>
-        requires { IsRules self.old }
-        ensures rules { IsRules self.new }
+        requires { AreSessionRules self.old }
+        ensures rules { AreSessionRules self.new }
         ensures settings { self.new.settings ≡ self.old.settings }
-        ensures answer { (st : State) → StateStands self.old st
+        ensures answer { (st : SessionState) → StateStands self.old st
             → result ≡ missing_at (config_in self.old.settings) round_trip st }
-        ensures stands { (st : State) → StateStands self.old st → StateStands self.new
+        ensures stands { (st : SessionState) → StateStands self.old st → StateStands self.new
             (after_missing (config_in self.old.settings) round_trip st) }
     {
         self.following
@@ -223,10 +223,10 @@ impl Rules {
 
     /// The stream with this SSRC has ended.
     pub fn ended(&mut self, source: u32)
-        requires { IsRules self.old }
-        ensures rules { IsRules self.new }
+        requires { AreSessionRules self.old }
+        ensures rules { AreSessionRules self.new }
         ensures settings { self.new.settings ≡ self.old.settings }
-        ensures stands { (st : State) → StateStands self.old st
+        ensures stands { (st : SessionState) → StateStands self.old st
             → StateStands self.new (after_ended source st) }
     {
         self.following.ended(source, self.time);
@@ -234,10 +234,10 @@ impl Rules {
 
     /// No stream has a run any more.
     pub fn begin(&mut self)
-        requires { IsRules self.old }
-        ensures rules { IsRules self.new }
+        requires { AreSessionRules self.old }
+        ensures rules { AreSessionRules self.new }
         ensures settings { self.new.settings ≡ self.old.settings }
-        ensures stands { (st : State) → StateStands self.old st
+        ensures stands { (st : SessionState) → StateStands self.old st
             → StateStands self.new (after_anew st) }
     {
         self.following.begin(&self.settings, self.time);
@@ -245,8 +245,8 @@ impl Rules {
 
     /// The SSRC of the stream of this run, if it has one.
     pub fn source(&self, run: Run) -> Option<u32>
-        ensures { (st : State) → StateStands self.now st
-            → result ≡ source_in st.follows.streams run }
+        ensures { (st : SessionState) → StateStands self.now st
+            → result ≡ run_source st.follows.streams run }
     {
         self.following.source(run)
     }
@@ -260,17 +260,17 @@ impl Rules {
 
     /// What was counted.
     pub fn counts(&self) -> Counts
-        ensures { (st : State) → StateStands self.now st → result ≡ st.counts }
+        ensures { (st : SessionState) → StateStands self.now st → result ≡ st.counts }
     {
         self.counts
     }
 
     /// The picture on the screen of the stream that is followed.
     pub fn shown(&self) -> PictureRef<'_>
-        requires { IsRules self.now }
-        ensures run { (st : State) → StateStands self.now st → picture result
+        requires { AreSessionRules self.now }
+        ensures run { (st : SessionState) → StateStands self.now st → picture result
             ≡ (receivers_run self.now.settings.params
-            (entries_in (config_in self.now.settings) st.follows.lines.followed)).screen }
+            (history_entries (config_in self.now.settings) st.follows.lines.followed)).screen }
         ensures whole { IsPicture (picture result) }
     {
         self.following.shown()

@@ -3,16 +3,16 @@ ghost use Rattle.std.specs.Prelude.{◌≡◌, ◌∷◌, List, [], IfOk};
 ghost use Rattle.h263_planes.specs.Lent.{picture};
 ghost use Rattle.h263_planes.specs.Samples.{IsPicture};
 ghost use Rattle.receiver_end.specs.State.{run_of as receivers_run};
-ghost use Rattle.stream_choice.specs.Choice.{source_in};
+ghost use Rattle.stream_choice.specs.Choice.{run_source};
 ghost use Rattle.session_intake.specs.Settings.{IsSettings};
-ghost use Rattle.session_runs.specs.Histories.{entries_in};
+ghost use Rattle.session_runs.specs.Histories.{history_entries};
 ghost use Rattle.session_runs.specs.Following.{due_next};
 ghost use Rattle.session_runs.specs.Kept.{config_in};
-ghost use Rattle.call_session.specs.Sessions.{Anew, Asked, Datagram, DatagramOf, Ended, Entry, Turn, at};
+ghost use Rattle.call_session.specs.Sessions.{Anew, Asked, Datagram, DatagramOf, Ended, SessionEntry, Turn, at};
 ghost use Rattle.call_session.specs.Sessions.{missing_at, outcome_of, outcome_of_one, played_run};
-ghost use Rattle.call_session.specs.Sessions.{session_run, told_of, told_of_one};
+ghost use Rattle.call_session.specs.Sessions.{session_run, told_of_datagram, told_of_one};
 ghost use Rattle.call_session.specs.Ruled.{IsRunPlayed, IsVerdict};
-ghost use Rattle.call_session.specs.Whole.{IsSession, Stands};
+ghost use Rattle.call_session.specs.Whole.{IsSession, SessionStands};
 
 use crate::rules::Rules;
 use crate::verdict::{Arrived, RunPlayed};
@@ -41,7 +41,7 @@ impl Session {
         requires { IsSettings settings.now }
         ensures session { IfOk result IsSession }
         ensures settings { IfOk result (λ s. s.rules.settings ≡ settings.now) }
-        ensures stands { IfOk result (λ s. Stands s []) }
+        ensures stands { IfOk result (λ s. SessionStands s []) }
     {
         let room = vec![in alloc; 0u8; LONGEST]?.into_boxed_slice();
         let rules = Rules::start(alloc, settings)?;
@@ -53,14 +53,14 @@ impl Session {
         requires { IsSession self.old }
         ensures session { IsSession self.new }
         ensures settings { self.new.rules.settings ≡ self.old.rules.settings }
-        ensures answer { (past : List Entry) → Stands self.old past
+        ensures answer { (past : List SessionEntry) → SessionStands self.old past
             → let c = config_in self.old.rules.settings in
             IsVerdict c.params.clock result.verdict (outcome_of c bytes.now now (session_run c past)) }
-        ensures told { (past : List Entry) → Stands self.old past
+        ensures told { (past : List SessionEntry) → SessionStands self.old past
             → let c = config_in self.old.rules.settings in
-            result.is_rival ≡ told_of c bytes.now now (session_run c past) }
-        ensures stands { (past : List Entry) → Stands self.old past
-            → Stands self.new (Datagram bytes.now now ∷ past) }
+            result.is_rival ≡ told_of_datagram c bytes.now now (session_run c past) }
+        ensures stands { (past : List SessionEntry) → SessionStands self.old past
+            → SessionStands self.new (Datagram bytes.now now ∷ past) }
     {
         self.rules.tick(now);
         match read(&self.rules.params(), bytes, &mut self.room) {
@@ -75,14 +75,14 @@ impl Session {
         requires { IsSession self.old }
         ensures session { IsSession self.new }
         ensures settings { self.new.rules.settings ≡ self.old.rules.settings }
-        ensures answer { (past : List Entry) → Stands self.old past
+        ensures answer { (past : List SessionEntry) → SessionStands self.old past
             → let c = config_in self.old.rules.settings in IsVerdict c.params.clock result.verdict
             (outcome_of_one c source bytes.now now (session_run c past)) }
-        ensures told { (past : List Entry) → Stands self.old past
+        ensures told { (past : List SessionEntry) → SessionStands self.old past
             → let c = config_in self.old.rules.settings in
             result.is_rival ≡ told_of_one c source bytes.now now (session_run c past) }
-        ensures stands { (past : List Entry) → Stands self.old past
-            → Stands self.new (DatagramOf source bytes.now now ∷ past) }
+        ensures stands { (past : List SessionEntry) → SessionStands self.old past
+            → SessionStands self.new (DatagramOf source bytes.now now ∷ past) }
     {
         self.rules.tick(now);
         match read(&self.rules.params(), bytes, &mut self.room) {
@@ -101,7 +101,7 @@ impl Session {
     /// due at once.
     pub fn due(&self) -> Option<u64>
         requires { IsSession self.now }
-        ensures { (past : List Entry) → Stands self.now past
+        ensures { (past : List SessionEntry) → SessionStands self.now past
             → let c = config_in self.now.rules.settings in
             result ≡ due_next c (session_run c past).follows }
     {
@@ -113,11 +113,11 @@ impl Session {
         requires { IsSession self.old }
         ensures session { IsSession self.new }
         ensures settings { self.new.rules.settings ≡ self.old.rules.settings }
-        ensures told { (past : List Entry) → Stands self.old past
+        ensures told { (past : List SessionEntry) → SessionStands self.old past
             → let c = config_in self.old.rules.settings in
             let st = at now (session_run c past) in IsRunPlayed c st (played_run c st) result }
-        ensures stands { (past : List Entry) → Stands self.old past
-            → Stands self.new (Turn now ∷ past) }
+        ensures stands { (past : List SessionEntry) → SessionStands self.old past
+            → SessionStands self.new (Turn now ∷ past) }
     {
         self.rules.tick(now);
         self.rules.play()
@@ -132,11 +132,11 @@ impl Session {
         requires { IsSession self.old }
         ensures session { IsSession self.new }
         ensures settings { self.new.rules.settings ≡ self.old.rules.settings }
-        ensures answer { (past : List Entry) → Stands self.old past
+        ensures answer { (past : List SessionEntry) → SessionStands self.old past
             → let c = config_in self.old.rules.settings in
             result ≡ missing_at c round_trip (at now (session_run c past)) }
-        ensures stands { (past : List Entry) → Stands self.old past
-            → Stands self.new (Asked round_trip now ∷ past) }
+        ensures stands { (past : List SessionEntry) → SessionStands self.old past
+            → SessionStands self.new (Asked round_trip now ∷ past) }
     {
         self.rules.tick(now);
         self.rules.missing(round_trip)
@@ -149,8 +149,8 @@ impl Session {
         requires { IsSession self.old }
         ensures session { IsSession self.new }
         ensures settings { self.new.rules.settings ≡ self.old.rules.settings }
-        ensures stands { (past : List Entry) → Stands self.old past
-            → Stands self.new (Ended source now ∷ past) }
+        ensures stands { (past : List SessionEntry) → SessionStands self.old past
+            → SessionStands self.new (Ended source now ∷ past) }
     {
         self.rules.tick(now);
         self.rules.ended(source);
@@ -162,8 +162,8 @@ impl Session {
         requires { IsSession self.old }
         ensures session { IsSession self.new }
         ensures settings { self.new.rules.settings ≡ self.old.rules.settings }
-        ensures stands { (past : List Entry) → Stands self.old past
-            → Stands self.new (Anew now ∷ past) }
+        ensures stands { (past : List SessionEntry) → SessionStands self.old past
+            → SessionStands self.new (Anew now ∷ past) }
     {
         self.rules.tick(now);
         self.rules.begin();
@@ -173,10 +173,10 @@ impl Session {
     /// the first all samples are 128.
     pub fn shown(&self) -> PictureRef<'_>
         requires { IsSession self.now }
-        ensures run { (past : List Entry) → Stands self.now past
+        ensures run { (past : List SessionEntry) → SessionStands self.now past
             → let c = config_in self.now.rules.settings in
             picture result ≡ (receivers_run c.params
-            (entries_in c (session_run c past).follows.lines.followed)).screen }
+            (history_entries c (session_run c past).follows.lines.followed)).screen }
         ensures whole { IsPicture (picture result) }
     {
         self.rules.shown()
@@ -184,15 +184,15 @@ impl Session {
 
     /// The SSRC of the stream of this run, if it has one.
     pub fn source(&self, run: Run) -> Option<u32>
-        ensures { (past : List Entry) → Stands self.now past → result
-            ≡ source_in (session_run (config_in self.now.rules.settings) past).follows.streams run }
+        ensures { (past : List SessionEntry) → SessionStands self.now past → result
+            ≡ run_source (session_run (config_in self.now.rules.settings) past).follows.streams run }
     {
         self.rules.source(run)
     }
 
     /// What was counted.
     pub fn statistics(&self) -> Counts
-        ensures { (past : List Entry) → Stands self.now past
+        ensures { (past : List SessionEntry) → SessionStands self.now past
             → result ≡ (session_run (config_in self.now.rules.settings) past).counts }
     {
         self.rules.counts()

@@ -9,10 +9,10 @@ use Rattle.h263_bits.specs.declared.fault.FaultKind.TheVariants.{BadLevel}
 use Rattle.h263_bits.specs.Bits.{is_set, number, spelled, fields}
 use Rattle.h263_bits.specs.Reading.{Bits, err}
 use Rattle.h263_bits.specs.Syntax.{IsIn, Spells, reading, any, field, done, begins}
-use Rattle.h263_bits.specs.Elements.{IsFieldFault, IsWordOf, IsCutWord, IsNoWord, IsWordFault, Faults}
+use Rattle.h263_bits.specs.Elements.{IsFieldFault, IsWordOf, IsCutWord, IsNoWord, IsWordFault, ElementFaults}
 use Rattle.h263_bits.proofs.SyntaxLaws.{stands, err_not_ok, sound, complete, one_reading, spells_done, spells_field, spells_code, spells_element, spells_whole, begins_parts, begins_itself, both_begin, fault_found, number-append, number-lt, spelled-number}
 use Rattle.code_tables.specs.Words.{word}
-use Rattle.code_tables.specs.Tables.{Event, Coefficient, level_of, sized, events, from_runs, last_0_texts, last_1_texts, tcoef_words, event_table, event_parts, event, after_word, allowed_level, signed}
+use Rattle.code_tables.specs.Tables.{TableEvent, Coefficient, escaped_level, sized, words_of_events, from_runs, last_0_texts, last_1_texts, tcoef_words, event_table, event_parts, event, after_word, allowed_level, signed}
 use Rattle.code_tables.specs.EventWords.{escape_text, IsBadEscape, IsEventWord, IsEventFault}
 use Rattle.code_tables.proofs.Productive.{event_productive}
 use Rattle.code_tables.proofs.FaultRows.{in_after, level_row}
@@ -24,20 +24,21 @@ in_cases x [] ys h = inr h
 in_cases x (v ∷ xs) ys (inl e) = inl (inl e)
 in_cases x (v ∷ xs) ys (inr h) = elim (in_cases x xs ys h) [ inl g ↦ inl (inr g) | inr g ↦ inr g ]
 
-not_some : (x : Event) → Some x ≡ None → ⊥
+not_some : (x : TableEvent) → Some x ≡ None → ⊥
 not_some x e = cc
 
 none_sized : (last : Bool) (run n : ℕ) (ws : List (List Bool)) (w : List Bool) → IsIn (w, None) (sized last run n ws)
     → ⊥
 none_sized last run n [] w h = h
 none_sized last run n (v ∷ ws) w (inl e) = not_some (record { last = last; run = run; size = n })
-    (ap (λ (p : List Bool × Option Event). p.1) e)
+    (ap (λ (p : List Bool × Option TableEvent). p.1) e)
 none_sized last run n (v ∷ ws) w (inr h) = none_sized last run (n + 1) ws w h
 
 none_rows : (last : Bool) (run : ℕ) (rows : List (List (List Bool))) (w : List Bool)
     → IsIn (w, None) (from_runs last run rows) → ⊥
 none_rows last run [] w h = h
-none_rows last run (row ∷ rows) w h = elim (in_cases (w, None) (events last run row) (from_runs last (run + 1) rows) h)
+none_rows last run (row ∷ rows) w h =
+    elim (in_cases (w, None) (words_of_events last run row) (from_runs last (run + 1) rows) h)
     [ inl g ↦ none_sized last run 1 row w g | inr g ↦ none_rows last (run + 1) rows w g ]
 
 escape_listed : IsIn (word "0000011", None) tcoef_words
@@ -55,11 +56,11 @@ none_is w h =
             | inl k ↦ absurd (none_rows false 0 last_0_texts w k)
             | inr k ↦ absurd (none_rows true 0 last_1_texts w k)
           ]
-      | inr g ↦ elim g [ inl e ↦ sym (ap (λ (p : List Bool × Option Event). p.0) e) | inr z ↦ absurd z ]
+      | inr g ↦ elim g [ inl e ↦ sym (ap (λ (p : List Bool × Option TableEvent). p.0) e) | inr z ↦ absurd z ]
     ]
 
 -- each word of the table begins one with its sign or its fields
-grown : (w : List Bool) (o : Option Event) → IsIn (w, o) tcoef_words → (s : List Bool) × IsEventWord (w ++ s)
+grown : (w : List Bool) (o : Option TableEvent) → IsIn (w, o) tcoef_words → (s : List Bool) × IsEventWord (w ++ s)
 grown w (Some e) h = (true ∷ [], inl (record { front = w; event = e; sign = true; listed = h; parts = refl }))
 grown w None h =
     let tail = fields ((1, 0) ∷ (6, 0) ∷ (8, 1) ∷ []) in (
@@ -80,7 +81,7 @@ grown w None h =
 -- and each such word begins with one
 pub record HasFront (w : List Bool) : Type 0 where
   pub front : List Bool
-  pub stands : Option Event
+  pub stands : Option TableEvent
   pub tail : List Bool
   pub listed : IsIn (front, stands) tcoef_words
   pub parts : w ≡ front ++ tail
@@ -292,12 +293,12 @@ none_refused kind e = cc
 
 -- what an escape's fields stand for
 abbrev escaped : ℕ → ℕ → ℕ → Coefficient
-escaped last run level = record { last = last == 1; run = run; level = level_of level }
+escaped last run level = record { last = last == 1; run = run; level = escaped_level level }
 
 -- what follows the escape's word
-fields_fault : (rest left : List Bool) (kind : FaultKind) → Faults (after_word None) rest left kind
+fields_fault : (rest left : List Bool) (kind : FaultKind) → ElementFaults (after_word None) rest left kind
     → IsEventFault ((word "0000011" ++ rest) ++ left) kind
-unfolding Faults
+unfolding ElementFaults
 fields_fault rest left kind (inl f) = subst (λ (t : List Bool). IsEventFault ((word "0000011" ++ t) ++ left) kind)
     (sym f.0) (at f.1)
   where
@@ -308,7 +309,7 @@ fields_fault rest left kind (inr a) = subst (λ (t : List Bool). IsEventFault ((
     (sym a.4) (after_last a.0 a.1 a.2 a.5)
   where
     after_run : (last run : ℕ) (more : List Bool) → last < 2 → run < 64
-        → Faults (field 8 allowed_level λ level. done (escaped last run level)) more left kind
+        → ElementFaults (field 8 allowed_level λ level. done (escaped last run level)) more left kind
         → IsEventFault ((word "0000011" ++ (spelled 1 last ++ (spelled 6 run ++ more))) ++ left) kind
     after_run last run more lt small (inl f) =
         subst (λ (t : List Bool). IsEventFault ((word "0000011" ++ (spelled 1 last ++ (spelled 6 run ++ t)))
@@ -346,7 +347,7 @@ fields_fault rest left kind (inr a) = subst (λ (t : List Bool). IsEventFault ((
     after_run last run more lt small (inr g) = absurd g.5
 
     after_last : (last : ℕ) (more : List Bool) → last < 2
-        → Faults (field 6 any λ run. field 8 allowed_level λ level. done (escaped last run level)) more left kind
+        → ElementFaults (field 6 any λ run. field 8 allowed_level λ level. done (escaped last run level)) more left kind
         → IsEventFault ((word "0000011" ++ (spelled 1 last ++ more)) ++ left) kind
     after_last last more lt (inl f) = subst (λ (t : List Bool). IsEventFault ((word "0000011" ++ (spelled 1 last ++ t))
         ++ left) kind) (sym f.0) (at f.1)
@@ -358,9 +359,9 @@ fields_fault rest left kind (inr a) = subst (λ (t : List Bool). IsEventFault ((
         ++ left) kind) (sym g.4) (after_run last g.0 g.1 lt g.2 g.5)
 
 -- a sign that is cut
-sign_fault : (w : List Bool) (e : Event) (rest left : List Bool) (kind : FaultKind) → IsIn (w, Some e) tcoef_words
-    → Faults (after_word (Some e)) rest left kind → IsEventFault ((w ++ rest) ++ left) kind
-unfolding Faults
+sign_fault : (w : List Bool) (e : TableEvent) (rest left : List Bool) (kind : FaultKind) → IsIn (w, Some e) tcoef_words
+    → ElementFaults (after_word (Some e)) rest left kind → IsEventFault ((w ++ rest) ++ left) kind
+unfolding ElementFaults
 sign_fault w e rest left kind h (inl f) = at f.1
   where
     at : IsFieldFault 1 any left kind → IsEventFault ((w ++ rest) ++ left) kind
@@ -379,23 +380,24 @@ sign_fault w e rest left kind h (inl f) = at f.1
     at (inr g) = absurd (none_refused kind g.4)
 sign_fault w e rest left kind h (inr f) = absurd f.5
 
-word_fault_of : (w : List Bool) (o : Option Event) (rest left : List Bool) (kind : FaultKind) → IsIn (w, o) tcoef_words
-    → Faults (after_word o) rest left kind → IsEventFault ((w ++ rest) ++ left) kind
+word_fault_of : (w : List Bool) (o : Option TableEvent) (rest left : List Bool) (kind : FaultKind)
+    → IsIn (w, o) tcoef_words
+    → ElementFaults (after_word o) rest left kind → IsEventFault ((w ++ rest) ++ left) kind
 word_fault_of w (Some e) rest left kind h f = sign_fault w e rest left kind h f
 word_fault_of w None rest left kind h f = subst (λ (t : List Bool). IsEventFault ((t ++ rest) ++ left) kind)
     (sym (none_is w h)) (fields_fault rest left kind f)
 
-parts_fault : (inner left : List Bool) (kind : FaultKind) → Faults event_parts inner left kind
+parts_fault : (inner left : List Bool) (kind : FaultKind) → ElementFaults event_parts inner left kind
     → IsEventFault (inner ++ left) kind
-unfolding Faults event_parts event_table
+unfolding ElementFaults event_parts event_table
 parts_fault inner left kind (inl f) = subst (λ (t : List Bool). IsEventFault (t ++ left) kind) (sym f.0)
     (of_table left kind f.1)
 parts_fault inner left kind (inr f) = subst (λ (t : List Bool). IsEventFault (t ++ left) kind) (sym f.4)
     (word_fault_of f.0 f.1 f.2 left kind f.3 f.5)
 
-event_faults : (front left : List Bool) (kind : FaultKind) → Faults event front left kind
+event_faults : (front left : List Bool) (kind : FaultKind) → ElementFaults event front left kind
     → (front ≡ []) × IsEventFault left kind
-unfolding Faults event
+unfolding ElementFaults event
 event_faults front left kind (inl f) = (
   f.0,
   subst (λ (t : List Bool). IsEventFault t kind) (sym f.3)
@@ -439,11 +441,11 @@ bit_below : (sign : Bool) → cond sign 1 0 < 2
 bit_below true = omega arith
 bit_below false = omega arith
 
-in_table : (w : List Bool) (o : Option Event) → IsIn (w, o) tcoef_words → IsIn (w, o) event_table.list
+in_table : (w : List Bool) (o : Option TableEvent) → IsIn (w, o) tcoef_words → IsIn (w, o) event_table.list
 unfolding event_table
 in_table w o h = h
 
-in_list : (w : List Bool) (o : Option Event) → IsIn (w, o) event_table.list → IsIn (w, o) tcoef_words
+in_list : (w : List Bool) (o : Option TableEvent) → IsIn (w, o) event_table.list → IsIn (w, o) tcoef_words
 unfolding event_table
 in_list w o h = h
 
@@ -481,7 +483,7 @@ word_spelt w (inr r) =
     (sym r.parts)
 
 -- and what is spelled for an event is such a word
-of_word : (w : List Bool) (o : Option Event) (rest : List Bool) (x : Coefficient) → IsIn (w, o) tcoef_words
+of_word : (w : List Bool) (o : Option TableEvent) (rest : List Bool) (x : Coefficient) → IsIn (w, o) tcoef_words
     → Spells (after_word o) x rest → IsEventWord (w ++ rest)
 unfolding Spells
 of_word w (Some e) rest x i s =

@@ -11,7 +11,7 @@ use Rattle.h263_bits.specs.Elements.{IsWordOf, HasFault, EndsWithFault}
 use Rattle.h263_bits.proofs.SyntaxLaws.{word_only, fault_of_no_word, fault_in_element, fault_of_element, fault_after_word, fault_after_field, fault_here, fault_of_cut, ends_after_word, ends_in_element, fault_of_text, spells_code, spells_field, spells_done}
 use Rattle.code_tables.specs.Words.{word}
 use Rattle.code_tables.specs.Mcbpc.{mcbpc, mcbpc_table, mcbpc_words, class_texts, dquant, dquant_table, dquant_words}
-use Rattle.code_tables.specs.Tables.{Event, cbpy, cbpy_table, cbpy_words, cbpy_texts, mvd, mvd_parts, magnitude_table, magnitude_words, magnitude_texts, signed, allowed_difference, event, event_parts, event_table, tcoef_words, from_runs, last_0_texts, last_1_texts, after_word, allowed_level}
+use Rattle.code_tables.specs.Tables.{TableEvent, cbpy, cbpy_table, cbpy_words, cbpy_texts, mvd, mvd_parts, magnitude_table, magnitude_words, magnitude_texts, signed, allowed_difference, event, event_parts, event_table, tcoef_words, from_runs, last_0_texts, last_1_texts, after_word, allowed_level}
 use Rattle.code_tables.specs.Faults.{HasWordFaults, AreWords, HaveBadCodes, HasEventFaults, WordFaults}
 use Rattle.code_tables.proofs.Productive.{mvd_productive}
 use Rattle.code_tables.proofs.Written.{in_numbers}
@@ -78,7 +78,7 @@ have_bad_codes = record { mcbpc = mcbpc_bad; cbpy = cbpy_bad; mvd = mvd_bad; eve
 
 -- ---- events
 
-sign_cut : (w : List Bool) (e : Event) → IsIn (w, Some e) tcoef_words → EndsWithFault event w Ended 0
+sign_cut : (w : List Bool) (e : TableEvent) → IsIn (w, Some e) tcoef_words → EndsWithFault event w Ended 0
 unfolding event event_parts event_table
 sign_cut w e h =
     λ at. ap (λ (t : List Bool). reading event (record { at = at; bits = t })) (sym (append-nil w))

@@ -7,7 +7,7 @@ use Rattle.code_tables.specs.declared.code.Level.{Level}
 use Rattle.code_tables.specs.declared.event_tables.TheConstants.{EVENTS, LEVELS, SHORT_EVENTS, LONG_EVENTS}
 use Rattle.code_tables.specs.Words.{starts, code_at, place_in}
 use Rattle.code_tables.specs.Starts.{starts_of}
-use Rattle.code_tables.specs.Tables.{Event}
+use Rattle.code_tables.specs.Tables.{TableEvent}
 use Rattle.code_tables.specs.Events.{event_of_code}
 use Rattle.code_tables.specs.Seen.{IsWordIn}
 use Rattle.code_tables.specs.Packed.{packed_len, packed_last, packed_run, packed_size, is_meant, is_packed_at, is_packed, are_packed}
@@ -58,7 +58,7 @@ packed_more seen p = at_place (place_in (starts_of (packed_last p)) (packed_run 
 
 -- ---- the word of a row
 
-abbrev pub packed_event : ℕ → Event
+abbrev pub packed_event : ℕ → TableEvent
 packed_event p = record { last = packed_last p; run = packed_run p; size = packed_size p }
 
 same_bool : (a b : Bool) → cond a b (not b) ≡ true → a ≡ b
@@ -105,5 +105,5 @@ row_word seen p = at_place (place_in (starts_of (packed_last p)) (packed_run p) 
         record {
           short = omega (arith, len, short);
           word = subst (λ (n : ℕ). IsWordIn 13 seen (Some (packed_event p)) n) len
-              (subst (λ (o : Option Event). IsWordIn 13 seen o (code_at EVENTS place).len) means named);
+              (subst (λ (o : Option TableEvent). IsWordIn 13 seen o (code_at EVENTS place).len) means named);
         }

@@ -5,8 +5,8 @@ use Rattle.h263_types.specs.declared.Kind.{Kind}
 use Rattle.h263_bits.specs.Syntax.{Syntax, IsProductive, any, field, done}
 use Rattle.h263_bits.proofs.SyntaxLaws.{either_productive}
 use Rattle.code_tables.specs.Mcbpc.{mcbpc, dquant}
-use Rattle.code_tables.specs.Laws.{AreProductive}
-use Rattle.code_tables.specs.Tables.{cbpy, mvd, mvd_parts, signed, event, event_parts, Event, after_word}
+use Rattle.code_tables.specs.Laws.{AreTablesProductive}
+use Rattle.code_tables.specs.Tables.{cbpy, mvd, mvd_parts, signed, event, event_parts, TableEvent, after_word}
 
 pub mcbpc_productive : (kind : Kind) → IsProductive (mcbpc kind)
 unfolding mcbpc IsProductive
@@ -42,7 +42,7 @@ mvd_productive = (
   λ z. tt,
 )
 
-after_productive : (o : Option Event) → IsProductive (after_word o)
+after_productive : (o : Option TableEvent) → IsProductive (after_word o)
 unfolding IsProductive
 after_productive (Some e) = λ sign. tt
 after_productive None = λ last. λ run. λ level. tt
@@ -51,7 +51,7 @@ pub event_productive : IsProductive event
 unfolding event event_parts IsProductive
 event_productive = (λ o. after_productive o, λ e. tt)
 
-pub are_productive : AreProductive
+pub are_productive : AreTablesProductive
 are_productive = record {
   mcbpc = mcbpc_productive;
   cbpy = cbpy_productive;

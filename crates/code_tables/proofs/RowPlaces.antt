@@ -7,7 +7,7 @@ use Rattle.code_tables.specs.declared.event_tables.Row.{Row}
 use Rattle.code_tables.specs.declared.event_tables.TheConstants.{LAST_0_ROWS, LAST_1_ROWS}
 use Rattle.code_tables.specs.Words.{place_in}
 use Rattle.code_tables.specs.Starts.{starts_of}
-use Rattle.code_tables.specs.Rows.{row_at, place_in_row}
+use Rattle.code_tables.specs.Rows.{table_row, place_in_row}
 
 -- a row begins and ends where the starts say, and is empty after the last of them
 abbrev is_row : List ℕ → ℕ → Row → Bool
@@ -18,17 +18,17 @@ is_row starts run row =
 -- the rows of the runs below n
 are_rows : List ℕ → List Row → ℕ → Bool
 are_rows starts rows zero = true
-are_rows starts rows (suc n) = is_row starts n (row_at rows n) && are_rows starts rows n
+are_rows starts rows (suc n) = is_row starts n (table_row rows n) && are_rows starts rows n
 
 row_below : (starts : List ℕ) (rows : List Row) (n run : ℕ) → are_rows starts rows n ≡ true → run < n
-    → is_row starts run (row_at rows run) ≡ true
+    → is_row starts run (table_row rows run) ≡ true
 unfolding are_rows
 row_below starts rows zero run all lt = absurd (omega arith)
 row_below starts rows (suc n) run all lt =
-    let both = and_both (is_row starts n (row_at rows n)) (are_rows starts rows n) all in
+    let both = and_both (is_row starts n (table_row rows n)) (are_rows starts rows n) all in
     elim (cases_lt run n) [
       | inl less ↦ row_below starts rows n run both.1 less
-      | inr more ↦ let same : n ≡ run = omega arith in ap (λ (k : ℕ). is_row starts k (row_at rows k)) (sym same)
+      | inr more ↦ let same : n ≡ run = omega arith in ap (λ (k : ℕ). is_row starts k (table_row rows k)) (sym same)
           ∙ both.0
     ]
 
@@ -73,12 +73,12 @@ place_of starts run size row is some =
     ]
 
 -- the place of a size among the words of a LAST and a RUN
-pub place_of_0 : (run size : ℕ) → run < 64 → 0 < size → place_in_row (row_at LAST_0_ROWS run) size
+pub place_of_0 : (run size : ℕ) → run < 64 → 0 < size → place_in_row (table_row LAST_0_ROWS run) size
     ≡ place_in (starts_of false) run size
-place_of_0 run size lt some = place_of (starts_of false) run size (row_at LAST_0_ROWS run)
+place_of_0 run size lt some = place_of (starts_of false) run size (table_row LAST_0_ROWS run)
     (row_below (starts_of false) LAST_0_ROWS 64 run (all_rows false) lt) some
 
-pub place_of_1 : (run size : ℕ) → run < 64 → 0 < size → place_in_row (row_at LAST_1_ROWS run) size
+pub place_of_1 : (run size : ℕ) → run < 64 → 0 < size → place_in_row (table_row LAST_1_ROWS run) size
     ≡ place_in (starts_of true) run size
-place_of_1 run size lt some = place_of (starts_of true) run size (row_at LAST_1_ROWS run)
+place_of_1 run size lt some = place_of (starts_of true) run size (table_row LAST_1_ROWS run)
     (row_below (starts_of true) LAST_1_ROWS 64 run (all_rows true) lt) some

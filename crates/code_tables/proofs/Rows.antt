@@ -15,7 +15,7 @@ use Rattle.code_tables.specs.declared.code.Code.{Code}
 use Rattle.code_tables.specs.declared.event_tables.TheConstants.{EVENTS}
 use Rattle.code_tables.specs.Words.{code_at, word_of, place_in, cut_rows}
 use Rattle.code_tables.specs.Starts.{starts_of}
-use Rattle.code_tables.specs.Tables.{rows_of, last_0_texts, last_1_texts, triple_text, Coefficient, size_of, sign_text, escape_fields, event_text}
+use Rattle.code_tables.specs.Tables.{texts_of_last, last_0_texts, last_1_texts, triple_text, Coefficient, size_of, sign_text, escape_fields, event_text}
 
 row_is : (starts : List ℕ) (texts : List (List Bool)) (run : ℕ) → run + 1 < length starts
     → slice_get (cut_rows starts texts) run
@@ -96,7 +96,7 @@ placed codes starts run size within some =
           ]
     ]
 
-same_rows : (last : Bool) → rows_of last ≡ cut_rows (starts_of last) (map word_of EVENTS)
+same_rows : (last : Bool) → texts_of_last last ≡ cut_rows (starts_of last) (map word_of EVENTS)
 unfolding last_0_texts last_1_texts spelled
 same_rows false = refl
 same_rows true = refl

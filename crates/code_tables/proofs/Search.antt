@@ -13,10 +13,10 @@ use Rattle.h263_bits.specs.declared.fault.Fault.{Fault}
 use Rattle.h263_bits.specs.declared.fault.FaultKind.TheVariants.{Ended, BadCode}
 use Rattle.h263_bits.specs.Bits.{number, spelled}
 use Rattle.h263_bits.specs.Reading.{Bits, skip, err, ◌>>=◌}
-use Rattle.h263_bits.specs.Syntax.{IsIn, is_prefix_free, begins, found, is_cut, taken, word_at}
+use Rattle.h263_bits.specs.Syntax.{IsIn, is_prefix_free, begins, found, is_cut, word_taken, word_at}
 use Rattle.h263_bits.proofs.SyntaxLaws.{length-spelled, number-spelled, spelled-number, number-lt, number-middle, take-take, begins_parts, begins_itself, and_both, found_again}
 use Rattle.code_tables.specs.declared.code.Code.{Code}
-use Rattle.code_tables.specs.Words.{word_of, listed, is_code, starts, goes_on_from, first_place, code_at, names, are_named}
+use Rattle.code_tables.specs.Words.{word_of, listed, is_code, starts, goes_on_from, first_place, code_at, names_code, are_named}
 
 pub same_answer : (a b : Bool) → (a ≡ true → b ≡ true) → (b ≡ true → a ≡ true) → a ≡ b
 same_answer true true p q = refl
@@ -209,15 +209,15 @@ fits_in cs i bits d s =
 -- ---- the tables for the first bits of words
 
 named_at : (codes : List Code) (width front i : ℕ) (ks : List ℕ) → are_named codes width front ks ≡ true → i < length ks
-    → names codes width (front + i) (get_or ks i 0) ≡ true
+    → names_code codes width (front + i) (get_or ks i 0) ≡ true
 named_at codes width front i [] e h = absurd (omega arith)
 named_at codes width front zero (k ∷ ks) e h =
-    rw (add-zero front) (and_both (names codes width front k) (are_named codes width (front + 1) ks) e).0
+    rw (add-zero front) (and_both (names_code codes width front k) (are_named codes width (front + 1) ks) e).0
 named_at codes width front (suc i) (k ∷ ks) e h =
-    let m : names codes width (front + 1 + i) (get_or ks i 0)
-    ≡ true = named_at codes width (front + 1) i ks (and_both (names codes width front k)
+    let m : names_code codes width (front + 1 + i) (get_or ks i 0)
+    ≡ true = named_at codes width (front + 1) i ks (and_both (names_code codes width front k)
     (are_named codes width (front + 1) ks) e).1 (omega arith) in
-    subst (λ (f : ℕ). names codes width f (get_or ks i 0) ≡ true) (omega arith) m
+    subst (λ (f : ℕ). names_code codes width f (get_or ks i 0) ≡ true) (omega arith) m
 
 named : (b : Bool) (a : Bool) → (a || b) ≡ true → a ≡ false → b ≡ true
 named b true e h = absurd cc
@@ -245,8 +245,8 @@ lt-leb-false a b h = grind (arith, nat_tests)
 pub starts_there : (codes : List Code) (width seen : ℕ) (ks : List ℕ) → are_named codes width 0 ks ≡ true
     → seen < length ks → get_or ks seen 0 < length codes → starts seen width (code_at codes (get_or ks seen 0)) ≡ true
 starts_there codes width seen ks all h lt =
-    let yes : names codes width seen (get_or ks seen 0)
-    ≡ true = subst (λ (j : ℕ). names codes width j (get_or ks seen 0) ≡ true) (zero-add seen)
+    let yes : names_code codes width seen (get_or ks seen 0)
+    ≡ true = subst (λ (j : ℕ). names_code codes width j (get_or ks seen 0) ≡ true) (zero-add seen)
     (named_at codes width 0 seen ks all h) in
     named _ _ yes (lt-leb-false (length codes) (get_or ks seen 0) lt)
 
@@ -313,8 +313,8 @@ unfolding word_at
 word_at-map {S} {T} f words b = rw (found-map f words b.bits) (at_found (found words b.bits))
   where
     at_found : (o : Option (List Bool × S))
-        → taken (map (λ w. (w.0, f w.1)) words) b (option_map (λ (w : List Bool × S). (w.0, f w.1)) o)
-        ≡ (taken words b o >>= λ x. Ok (f x.0, x.1))
+        → word_taken (map (λ w. (w.0, f w.1)) words) b (option_map (λ (w : List Bool × S). (w.0, f w.1)) o)
+        ≡ (word_taken words b o >>= λ x. Ok (f x.0, x.1))
     at_found (Some w) = refl
     at_found None = rw (cut-map f words b.bits) (at_cut (is_cut words b.bits))
       where

@@ -17,13 +17,13 @@ use Rattle.code_tables.specs.declared.code.Code.{Code}
 use Rattle.code_tables.specs.declared.code.Level.{Level}
 use Rattle.code_tables.specs.declared.event_tables.TheConstants.{EVENTS, LEVELS}
 use Rattle.code_tables.specs.Words.{listed, is_code, starts, code_at}
-use Rattle.code_tables.specs.Tables.{Event, Coefficient, tcoef_words, last_0_texts, last_1_texts, event, event_parts, event_table, signed, level_of}
+use Rattle.code_tables.specs.Tables.{TableEvent, Coefficient, tcoef_words, last_0_texts, last_1_texts, event, event_parts, event_table, signed, escaped_level}
 use Rattle.code_tables.specs.declared.event_bits.SeenEvent.{SeenEvent}
 use Rattle.code_tables.specs.Events.{event_of_code, coefficient_of}
 use Rattle.code_tables.specs.Seen.{IsWordIn, IsEventIn, IsNextEvent}
 use Rattle.code_tables.proofs.Search.{word_at-map, front_number, named_stands, word_found}
 
-abbrev pub event_at : ℕ → Option Event
+abbrev pub event_at : ℕ → Option TableEvent
 event_at i = event_of_code (slice_get LEVELS i)
 
 -- the words as the code has them are those of the standard
@@ -32,9 +32,10 @@ unfolding tcoef_words last_0_texts last_1_texts listed spelled
 same_words = refl
 
 read : (b : Bits) → word_at tcoef_words b ≡ (word_at (listed 0 EVENTS) b >>= λ x. Ok (event_at x.0, x.1))
-read b = ap (λ (t : List (List Bool × Option Event)). word_at t b) same_words ∙ word_at-map event_at (listed 0 EVENTS) b
+read b = ap (λ (t : List (List Bool × Option TableEvent)). word_at t b) same_words
+    ∙ word_at-map event_at (listed 0 EVENTS) b
 
-pub found : (b c : Bits) (i : ℕ) (o : Option Event) → word_at (listed 0 EVENTS) b ≡ Ok (i, c) → o ≡ event_at i
+pub found : (b c : Bits) (i : ℕ) (o : Option TableEvent) → word_at (listed 0 EVENTS) b ≡ Ok (i, c) → o ≡ event_at i
     → word_at tcoef_words b ≡ Ok (o, c)
 found b c i o e s = read b ∙ rw (e, s) refl
 
@@ -123,7 +124,7 @@ signed_fits sign size lt = at_test (eqb sign 0)
     at_test true = omega (arith, ints)
     at_test false = neg_fits size lt
 
-pub level_of_fits : (n : ℕ) → n < 256 → (n ≡ 128 → ⊥) → SFits w8 (level_of n)
+pub level_of_fits : (n : ℕ) → n < 256 → (n ≡ 128 → ⊥) → SFits w8 (escaped_level n)
 level_of_fits n lt ne =
     elim (cases_lt n 128) [
       | inl less ↦ rw (lt-ltb n 128 less) (omega (arith, ints))
@@ -131,7 +132,7 @@ level_of_fits n lt ne =
     ]
 
 -- a word and its sign
-pub word_read : (b : Bits) (e : Event) (len seen : ℕ) (z : ℤ) → len ≤ 12 → IsWordIn 13 seen (Some e) len
+pub word_read : (b : Bits) (e : TableEvent) (len seen : ℕ) (z : ℤ) → len ≤ 12 → IsWordIn 13 seen (Some e) len
     → 13 ≤ length b.bits → number (take 13 b.bits) ≡ seen → z ≡ signed (seen / 2 ^ (12 - len) % 2) e.size
     → reading event_parts b ≡ Ok (record { last = e.last; run = e.run; level = z }, skip (len + 1) b)
 unfolding reading event_parts event_table
@@ -142,7 +143,7 @@ word_read b e len seen z short word enough is value =
 
 -- the escape and its fields
 pub escape_read : (b : Bits) (seen : ℕ) (z : ℤ) → IsWordIn 22 seen None 7 → (seen % 256 ≡ 0 → ⊥)
-    → (seen % 256 ≡ 128 → ⊥) → 22 ≤ length b.bits → number (take 22 b.bits) ≡ seen → z ≡ level_of (seen % 256)
+    → (seen % 256 ≡ 128 → ⊥) → 22 ≤ length b.bits → number (take 22 b.bits) ≡ seen → z ≡ escaped_level (seen % 256)
     → reading event_parts b ≡ Ok (
       record { last = eqb (seen / 2 ^ 14 % 2) 1; run = seen / 2 ^ 8 % 64; level = z },
       skip 22 b,

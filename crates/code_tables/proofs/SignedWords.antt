@@ -10,9 +10,9 @@ use Rattle.h263_bits.specs.declared.fault.FaultKind.TheVariants.{BadCode}
 use Rattle.h263_bits.specs.Bits.{spelled}
 use Rattle.h263_bits.specs.Reading.{Bits}
 use Rattle.h263_bits.specs.Syntax.{Syntax, IsIn, Spells, reading, any, field, done, either, begins, is_prefix_free}
-use Rattle.h263_bits.specs.Elements.{IsFieldFault, IsWordOf, IsWordFault, Faults}
+use Rattle.h263_bits.specs.Elements.{IsFieldFault, IsWordOf, IsWordFault, ElementFaults}
 use Rattle.h263_bits.proofs.SyntaxLaws.{begins_parts, begins_itself, both_begin, fault_found, no_word_of_front, apart_words, exact_words}
-use Rattle.code_tables.specs.Words.{word, from_number, text_at}
+use Rattle.code_tables.specs.Words.{word, numbered_from, text_at}
 use Rattle.code_tables.specs.Tables.{magnitude_texts, magnitude_words, magnitude_table, mvd, mvd_parts, mvd_words, with_signs, signed, allowed_difference}
 use Rattle.code_tables.proofs.Productive.{mvd_productive}
 
@@ -21,7 +21,7 @@ Signed w = IsWordOf mvd_words w
 
 -- ---- words that stand for their numbers
 
-from_on : (texts : List (List Bool)) (n size : ℕ) (w : List Bool) → IsIn (w, size) (from_number n texts)
+from_on : (texts : List (List Bool)) (n size : ℕ) (w : List Bool) → IsIn (w, size) (numbered_from n texts)
     → (n ≤ size) × (size < n + length texts)
 from_on [] n size w h = absurd h
 from_on (t ∷ ts) n size w (inl same) = let e : n ≡ size = ap (λ (p : List Bool × ℕ). p.1) same in
@@ -29,7 +29,7 @@ from_on (t ∷ ts) n size w (inl same) = let e : n ≡ size = ap (λ (p : List B
 from_on (t ∷ ts) n size w (inr h) = let m = from_on ts (suc n) size w h in (omega (arith, m.0), omega (arith, m.1))
 
 -- the word of a number is the text at its place
-text_of : (texts : List (List Bool)) (n k size : ℕ) (w : List Bool) → IsIn (w, size) (from_number n texts)
+text_of : (texts : List (List Bool)) (n k size : ℕ) (w : List Bool) → IsIn (w, size) (numbered_from n texts)
     → size ≡ n + k → w ≡ text_at texts k
 text_of [] n k size w h e = absurd h
 text_of (t ∷ ts) n zero size w (inl same) e = sym (ap (λ (p : List Bool × ℕ). p.0) same)
@@ -39,7 +39,7 @@ text_of (t ∷ ts) n (suc k) size w (inl same) e = let s : n ≡ size = ap (λ (
 text_of (t ∷ ts) n (suc k) size w (inr h) e = text_of ts (suc n) k size w h (omega (arith, e))
 
 -- with a sign, which is minus alone after the last
-signed_in : (texts : List (List Bool)) (n size : ℕ) (w : List Bool) (sign : ℕ) → IsIn (w, size) (from_number n texts)
+signed_in : (texts : List (List Bool)) (n size : ℕ) (w : List Bool) (sign : ℕ) → IsIn (w, size) (numbered_from n texts)
     → sign < 2 → (sign ≡ 0 → suc size < n + length texts)
     → IsIn (w ++ spelled 1 sign, signed sign size) (with_signs n texts)
 unfolding spelled
@@ -69,7 +69,7 @@ pub record HasMagnitude (texts : List (List Bool)) (n : ℕ) (w : List Bool) : T
   pub word : List Bool
   pub size : ℕ
   pub sign : List Bool
-  pub listed : IsIn (word, size) (from_number n texts)
+  pub listed : IsIn (word, size) (numbered_from n texts)
   pub parts : w ≡ word ++ sign
 
 magnitude_in : (texts : List (List Bool)) (n : ℕ) (w : List Bool) (x : ℤ) → IsIn (w, x) (with_signs n texts)
@@ -105,7 +105,7 @@ magnitude_in (t ∷ v ∷ ts) n w x (inr (inr h)) =
 
 -- 0, or a magnitude from 1 on
 first_or : (w : List Bool) (size : ℕ) → IsIn (w, size) magnitude_words → ((w ≡ word "1") × (size ≡ 0))
-    ⊎ IsIn (w, size) (from_number 1 (drop 1 magnitude_texts))
+    ⊎ IsIn (w, size) (numbered_from 1 (drop 1 magnitude_texts))
 unfolding magnitude_words magnitude_texts
 first_or w size (inl same) = inl (
   sym (ap (λ (p : List Bool × ℕ). p.0) same),
@@ -118,7 +118,7 @@ unfolding magnitude_texts
 many = refl
 
 -- the word of a magnitude from 1 on, with a sign that it may have
-with_sign_in : (w : List Bool) (size sign : ℕ) → IsIn (w, size) (from_number 1 (drop 1 magnitude_texts)) → sign < 2
+with_sign_in : (w : List Bool) (size sign : ℕ) → IsIn (w, size) (numbered_from 1 (drop 1 magnitude_texts)) → sign < 2
     → (sign ≡ 0 → size ≡ 32 → ⊥) → IsIn (w ++ spelled 1 sign, signed sign size) mvd_words
 unfolding mvd_words
 with_sign_in w size sign h lt below =
@@ -137,7 +137,7 @@ minus = refl
 grown : (w : List Bool) (size : ℕ) → IsIn (w, size) magnitude_words → (sign : List Bool) × Signed (w ++ sign)
 grown w size h = at (first_or w size h)
   where
-    at : ((w ≡ word "1") × (size ≡ 0)) ⊎ IsIn (w, size) (from_number 1 (drop 1 magnitude_texts))
+    at : ((w ≡ word "1") × (size ≡ 0)) ⊎ IsIn (w, size) (numbered_from 1 (drop 1 magnitude_texts))
         → (sign : List Bool) × Signed (w ++ sign)
     at (inl z) = (
       [],
@@ -166,7 +166,7 @@ shrunk w x (inr h) =
     let m = magnitude_in (drop 1 magnitude_texts) 1 w x h in
     record { word = m.word; size = m.size; sign = m.sign; listed = inr m.listed; parts = m.parts }
 
-listed_words : (w : List Bool) (size : ℕ) → IsIn (w, size) (from_number 0 magnitude_texts)
+listed_words : (w : List Bool) (size : ℕ) → IsIn (w, size) (numbered_from 0 magnitude_texts)
     → IsIn (w, size) magnitude_words
 unfolding magnitude_words
 listed_words w size h = h
@@ -181,7 +181,8 @@ not_32 size e is = let h : allowed_difference (pos 32) ≡ None = subst (λ (k :
     ≡ None) is e in cc
 
 sign_in : (w : List Bool) (size : ℕ) (x : ℤ) (rest : List Bool)
-    → IsIn (w, size) (from_number 1 (drop 1 magnitude_texts)) → Spells (signs size) x rest → allowed_difference x ≡ None
+    → IsIn (w, size) (numbered_from 1 (drop 1 magnitude_texts)) → Spells (signs size) x rest
+    → allowed_difference x ≡ None
     → IsIn (w ++ rest, x) mvd_words
 unfolding Spells signs
 sign_in w size x rest i h free =
@@ -200,7 +201,7 @@ parts_in : (x : ℤ) (text : List Bool) → Spells mvd_parts x text → allowed_
 unfolding Spells mvd_parts magnitude_table signs
 parts_in x text h free = subst (λ (t : List Bool). IsIn (t, x) mvd_words) (sym h.4) (at (first_or h.0 h.1 h.3))
   where
-    at : ((h.0 ≡ word "1") × (h.1 ≡ 0)) ⊎ IsIn (h.0, h.1) (from_number 1 (drop 1 magnitude_texts))
+    at : ((h.0 ≡ word "1") × (h.1 ≡ 0)) ⊎ IsIn (h.0, h.1) (numbered_from 1 (drop 1 magnitude_texts))
         → IsIn (h.0 ++ h.2, x) mvd_words
     at (inl z) =
         let end : Spells (either true (done (pos 0)) (signs h.1)) x h.2 =
@@ -258,9 +259,9 @@ of_magnitude left kind (inr f) = inr (λ w is. none w (shrunk w is.0 is.1), f.1)
 
 -- a sign that is cut
 sign_cut : (w : List Bool) (size : ℕ) (rest left : List Bool) (kind : FaultKind)
-    → IsIn (w, size) (from_number 1 (drop 1 magnitude_texts)) → Faults (signs size) rest left kind
+    → IsIn (w, size) (numbered_from 1 (drop 1 magnitude_texts)) → ElementFaults (signs size) rest left kind
     → IsWordFault (λ v. Signed v) ((w ++ rest) ++ left) kind
-unfolding Faults signs
+unfolding ElementFaults signs
 sign_cut w size rest left kind i (inl f) = at f.1
   where
     nothing : (xs : List Bool) → length xs < 1 → xs ≡ []
@@ -282,22 +283,23 @@ sign_cut w size rest left kind i (inl f) = at f.1
     at (inr g) = absurd cc
 sign_cut w size rest left kind i (inr f) = absurd f.5
 
-parts_fault : (inner left : List Bool) (kind : FaultKind) → Faults mvd_parts inner left kind
+parts_fault : (inner left : List Bool) (kind : FaultKind) → ElementFaults mvd_parts inner left kind
     → IsWordFault (λ w. Signed w) (inner ++ left) kind
-unfolding Faults mvd_parts magnitude_table signs
+unfolding ElementFaults mvd_parts magnitude_table signs
 parts_fault inner left kind (inl f) = subst (λ (t : List Bool). IsWordFault (λ w. Signed w) (t ++ left) kind) (sym f.0)
     (of_magnitude left kind f.1)
 parts_fault inner left kind (inr f) = subst (λ (t : List Bool). IsWordFault (λ w. Signed w) (t ++ left) kind) (sym f.4)
     (at (first_or f.0 f.1 f.3))
   where
-    at : ((f.0 ≡ word "1") × (f.1 ≡ 0)) ⊎ IsIn (f.0, f.1) (from_number 1 (drop 1 magnitude_texts))
+    at : ((f.0 ≡ word "1") × (f.1 ≡ 0)) ⊎ IsIn (f.0, f.1) (numbered_from 1 (drop 1 magnitude_texts))
         → IsWordFault (λ w. Signed w) ((f.0 ++ f.2) ++ left) kind
-    at (inl z) = absurd (subst (λ (k : ℕ). Faults (either (eqb k 0) (done (pos 0)) (signs f.1)) f.2 left kind) z.1 f.5)
+    at (inl z) = absurd (subst (λ (k : ℕ). ElementFaults (either (eqb k 0) (done (pos 0)) (signs f.1)) f.2 left kind)
+        z.1 f.5)
     at (inr i) =
         let m = from_on (drop 1 magnitude_texts) 1 f.1 f.0 i in
         let some : eqb f.1 0 ≡ false = ne_eqb f.1 0 (λ e. omega (arith, e, m.0)) in
         sign_cut f.0 f.1 f.2 left kind i
-        (subst (λ (t : Bool). Faults (either t (done (pos 0)) (signs f.1)) f.2 left kind) some f.5)
+        (subst (λ (t : Bool). ElementFaults (either t (done (pos 0)) (signs f.1)) f.2 left kind) some f.5)
 
 -- 32 with plus, whatever follows
 plus_32 : List Bool
@@ -333,7 +335,7 @@ text_32 text h = at (first_or h.0 h.1 h.3)
     signed_32 (suc zero) zero lt e some = absurd (omega arith)
     signed_32 (suc (suc k)) size lt e some = absurd (omega arith)
 
-    at : ((h.0 ≡ word "1") × (h.1 ≡ 0)) ⊎ IsIn (h.0, h.1) (from_number 1 (drop 1 magnitude_texts)) → text ≡ plus_32
+    at : ((h.0 ≡ word "1") × (h.1 ≡ 0)) ⊎ IsIn (h.0, h.1) (numbered_from 1 (drop 1 magnitude_texts)) → text ≡ plus_32
     at (inl z) =
         let end : Spells (either true (done (pos 0)) (signs h.1)) (pos 32) h.2 =
         subst (λ (k : ℕ). Spells (either (eqb k 0) (done (pos 0)) (signs h.1)) (pos 32) h.2) z.1 h.5 in
@@ -350,9 +352,9 @@ text_32 text h = at (first_or h.0 h.1 h.3)
         ∙ append-nil (spelled 1 end.0) ∙ ap (λ (k : ℕ). spelled 1 k) both.0 in
         h.4 ∙ ap (λ (t : List Bool). t ++ h.2) front ∙ ap (λ (t : List Bool). word "000000000010" ++ t) (back ∙ plus)
 
-mvd_faults : (front left : List Bool) (kind : FaultKind) → Faults mvd front left kind
+mvd_faults : (front left : List Bool) (kind : FaultKind) → ElementFaults mvd front left kind
     → (front ≡ []) × IsWordFault (λ w. Signed w) left kind
-unfolding Faults mvd
+unfolding ElementFaults mvd
 mvd_faults front left kind (inl f) = (
   f.0,
   subst (λ (t : List Bool). IsWordFault (λ w. Signed w) t kind) (sym f.3)

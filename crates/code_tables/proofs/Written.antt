@@ -12,7 +12,7 @@ use Rattle.h263_bits.proofs.SyntaxLaws.{spells_code, spells_done, spells_field, 
 use Rattle.code_tables.specs.declared.macroblock.MbClass.TheVariants.{Inter, InterQ, Inter4, Intra, IntraQ}
 use Rattle.code_tables.specs.declared.macroblock.Mcbpc.{Mcbpc}
 use Rattle.code_tables.specs.declared.macroblock.Mcbpc.TheVariants.{Stuffing, Word}
-use Rattle.code_tables.specs.Words.{from_number, text_at}
+use Rattle.code_tables.specs.Words.{numbered_from, text_at}
 use Rattle.code_tables.specs.Mcbpc.{mcbpc, mcbpc_table, mcbpc_words, mcbpc_text, class_texts, dquant, dquant_table, dquant_words, dquant_text, IsInTable, IsStep}
 use Rattle.code_tables.specs.Tables.{cbpy, cbpy_table, cbpy_words, cbpy_texts, cbpy_text, mvd, mvd_parts, mvd_text, magnitude_table, magnitude_words, magnitude_texts, signed, allowed_difference, size_of, sign_text}
 use Rattle.code_tables.proofs.Texts.{four, no_inter}
@@ -78,15 +78,15 @@ dquant_written (negsuc n) is = step_written_negsuc n is
 -- ---- words that stand for their places
 
 pub in_numbers : (texts : List (List Bool)) (k n : ℕ) → n < length texts
-    → IsIn (text_at texts n, k + n) (from_number k texts)
+    → IsIn (text_at texts n, k + n) (numbered_from k texts)
 in_numbers [] k n lt = absurd (omega arith)
 in_numbers (t ∷ ts) k zero lt = let e : k ≡ k + 0 = omega arith in inl (ap (λ (i : ℕ). (t, i)) e)
 in_numbers (t ∷ ts) k (suc n) lt =
     let e : suc k + n ≡ k + suc n = omega arith in
-    inr (subst (λ (i : ℕ). IsIn (text_at ts n, i) (from_number (suc k) ts)) e (in_numbers ts (suc k) n (omega arith)))
+    inr (subst (λ (i : ℕ). IsIn (text_at ts n, i) (numbered_from (suc k) ts)) e (in_numbers ts (suc k) n (omega arith)))
 
-in_table : (texts : List (List Bool)) (n : ℕ) → n < length texts → IsIn (text_at texts n, n) (from_number 0 texts)
-in_table texts n lt = subst (λ (i : ℕ). IsIn (text_at texts n, i) (from_number 0 texts)) (zero-add n)
+in_table : (texts : List (List Bool)) (n : ℕ) → n < length texts → IsIn (text_at texts n, n) (numbered_from 0 texts)
+in_table texts n lt = subst (λ (i : ℕ). IsIn (text_at texts n, i) (numbered_from 0 texts)) (zero-add n)
     (in_numbers texts 0 n lt)
 
 pub cbpy_written : (intra : Bool) (pattern : ℕ) → pattern < 16 → Spells (cbpy intra) pattern (cbpy_text intra pattern)

@@ -6,10 +6,10 @@ use Rattle.std.specs.Prelude.{ℤ, pos, negsuc, slice_get, option_and_then}
 use Rattle.h263_bits.specs.Bits.{spelled, fields}
 use Rattle.h263_bits.specs.Syntax.{Spells, IsIn, any, done}
 use Rattle.h263_bits.proofs.SyntaxLaws.{spells_code, spells_done, spells_field, spells_element, spells_whole}
-use Rattle.code_tables.specs.Laws.{AreSpelt}
+use Rattle.code_tables.specs.Laws.{AreTablesSpelt}
 use Rattle.code_tables.specs.Words.{word}
 use Rattle.code_tables.proofs.Written.{mcbpc_written, cbpy_written, dquant_written, mvd_written}
-use Rattle.code_tables.specs.Tables.{Event, Coefficient, sized, from_runs, last_0_texts, last_1_texts, tcoef_words, event_table, after_word, event_parts, event, signed, allowed_level, level_of, rows_of, triple_text, byte_of, bit_of, escape_fields, word_or_escape, event_text, IsEvent, size_of, sign_text}
+use Rattle.code_tables.specs.Tables.{TableEvent, Coefficient, sized, from_runs, last_0_texts, last_1_texts, tcoef_words, event_table, after_word, event_parts, event, signed, allowed_level, escaped_level, texts_of_last, triple_text, byte_of, bit_of, escape_fields, word_or_escape, event_text, IsEvent, size_of, sign_text}
 
 in_left : {X : Type 0} (x : X) (xs ys : List X) → IsIn x xs → IsIn x (xs ++ ys)
 in_left x (z ∷ xs) ys (inl e) = inl e
@@ -21,7 +21,7 @@ in_right x [] ys h = h
 in_right x (z ∷ xs) ys h = inr (in_right x xs ys h)
 
 -- what a word of a row stands for
-abbrev stands : Bool → ℕ → ℕ → Option Event
+abbrev stands : Bool → ℕ → ℕ → Option TableEvent
 stands last run size = Some (record { last = last; run = run; size = size })
 
 in_row_words : (last : Bool) (run k i : ℕ) (row : List (List Bool)) (w : List Bool) → slice_get row i ≡ Some w
@@ -54,7 +54,8 @@ in_runs last k (suc run) i (r ∷ rows) row w at e =
     (in_runs last (k + 1) run i rows row w at e))
 
 -- the words of a LAST are among all
-in_all : (last : Bool) (x : List Bool × Option Event) → IsIn x (from_runs last 0 (rows_of last)) → IsIn x tcoef_words
+in_all : (last : Bool) (x : List Bool × Option TableEvent) → IsIn x (from_runs last 0 (texts_of_last last))
+    → IsIn x tcoef_words
 unfolding tcoef_words
 in_all false x h = in_left x (from_runs false 0 last_0_texts ++ from_runs true 0 last_1_texts)
     ((word "0000011", None) ∷ []) (in_left x (from_runs false 0 last_0_texts) (from_runs true 0 last_1_texts) h)
@@ -70,18 +71,18 @@ escape_in = in_right (word "0000011", None) (from_runs false 0 last_0_texts ++ f
 triple_in : (last : Bool) (run size : ℕ) (w : List Bool) → 0 < size → triple_text last run size ≡ Some w
     → IsIn (w, stands last run size) tcoef_words
 unfolding triple_text
-triple_in last run size w some e = go (slice_get (rows_of last) run) refl e
+triple_in last run size w some e = go (slice_get (texts_of_last last) run) refl e
   where
-    go : (o : Option (List (List Bool))) → slice_get (rows_of last) run ≡ o
+    go : (o : Option (List (List Bool))) → slice_get (texts_of_last last) run ≡ o
         → option_and_then (λ row. slice_get row (size - 1)) o ≡ Some w → IsIn (w, stands last run size) tcoef_words
     go None at got = cc
     go (Some row) at got =
         let number : 0 + run ≡ run = omega arith in
         let whole : 1 + (size - 1) ≡ size = omega arith in
         in_all last (w, stands last run size)
-        (subst (λ (n : ℕ). IsIn (w, stands last n size) (from_runs last 0 (rows_of last))) number
-        (subst (λ (n : ℕ). IsIn (w, stands last (0 + run) n) (from_runs last 0 (rows_of last))) whole
-        (in_runs last 0 run (size - 1) (rows_of last) row w at got)))
+        (subst (λ (n : ℕ). IsIn (w, stands last n size) (from_runs last 0 (texts_of_last last))) number
+        (subst (λ (n : ℕ). IsIn (w, stands last (0 + run) n) (from_runs last 0 (texts_of_last last))) whole
+        (in_runs last 0 run (size - 1) (texts_of_last last) row w at got)))
 
 -- ---- a word with its sign
 
@@ -110,7 +111,8 @@ signed_level last run (negsuc n) some = one_sign last run (suc n) 1 (negsuc n) (
 
 -- ---- an escape
 
-level_back : (z : ℤ) → 0 < size_of z → size_of z < 128 → (z ≡ level_of (byte_of z)) × (allowed_level (byte_of z) ≡ None)
+level_back : (z : ℤ) → 0 < size_of z → size_of z < 128 → (z ≡ escaped_level (byte_of z))
+    × (allowed_level (byte_of z) ≡ None)
     × (byte_of z < 256)
 level_back (pos n) some lt =
     let a : eqb n 0 ≡ false = ne_eqb n 0 (λ (e : n ≡ 0). omega (arith, e)) in
@@ -134,7 +136,7 @@ escape_spelled : (e : Coefficient) → IsEvent e → Spells event_parts e (field
 unfolding event_parts event_table spelled
 escape_spelled e is =
     let back = level_back e.level is.some is.level in
-    let same : e ≡ record { last = eqb (bit_of e.last) 1; run = e.run; level = level_of (byte_of e.level) } =
+    let same : e ≡ record { last = eqb (bit_of e.last) 1; run = e.run; level = escaped_level (byte_of e.level) } =
     ap (λ (b : Bool). with_level b e.run e.level) (last_back e.last)
     ∙ ap (λ (z : ℤ). with_level (eqb (bit_of e.last) 1) e.run z) back.0 in
     spells_code event_table after_word e (word "0000011") None _ escape_in
@@ -168,7 +170,7 @@ event_written e is =
     (event_text e) [] (parts_written e is) refl (spells_done e))
 
 -- the texts that are written of the events spell them
-pub are_spelt : AreSpelt
+pub are_spelt : AreTablesSpelt
 are_spelt = record {
   mcbpc = mcbpc_written;
   cbpy = cbpy_written;

@@ -6,12 +6,12 @@ use Rattle.h263_bits.specs.Bits.{fields}
 use Rattle.h263_bits.specs.Syntax.{IsIn}
 use Rattle.h263_bits.specs.Elements.{IsCutWord, IsNoWord}
 use Rattle.code_tables.specs.Words.{word}
-use Rattle.code_tables.specs.Tables.{Event, tcoef_words}
+use Rattle.code_tables.specs.Tables.{TableEvent, tcoef_words}
 
 -- a word with its sign
 pub record IsSigned (text : List Bool) : Type 0 where
   pub front : List Bool
-  pub event : Event
+  pub event : TableEvent
   pub sign : Bool
   pub listed : IsIn (front, Some event) tcoef_words
   pub parts : text ≡ front ++ sign ∷ []

@@ -11,7 +11,7 @@ use Rattle.h263_bits.specs.Syntax.{Syntax, IsIn, Spells, reading}
 use Rattle.h263_bits.specs.Elements.{IsWordOf, IsWordFault, HasFault, EndsWithFault}
 use Rattle.code_tables.specs.Words.{word}
 use Rattle.code_tables.specs.Mcbpc.{mcbpc, mcbpc_words, dquant, dquant_words}
-use Rattle.code_tables.specs.Tables.{Event, cbpy, cbpy_words, mvd, mvd_words, tcoef_words, event}
+use Rattle.code_tables.specs.Tables.{TableEvent, cbpy, cbpy_words, mvd, mvd_words, tcoef_words, event}
 
 -- the faults of a syntax are those of such words
 abbrev pub HasWordFaults : {A : Type 0} → Syntax A → (List Bool → Type 0) → Type 0
@@ -36,7 +36,7 @@ pub record HaveBadCodes : Type 0 where
 -- an event with its sign, or as an escape, is one element
 pub record HasEventFaults : Type 0 where
   -- the sign is cut
-  pub sign : (w : List Bool) (e : Event) → IsIn (w, Some e) tcoef_words → EndsWithFault event w Ended 0
+  pub sign : (w : List Bool) (e : TableEvent) → IsIn (w, Some e) tcoef_words → EndsWithFault event w Ended 0
   -- LEVEL of an escape is 0 or -128
   pub level_0 : (last run : ℕ) → last < 2 → run < 64
       → HasFault event (word "0000011" ++ fields ((1, last) ∷ (6, run) ∷ (8, 0) ∷ [])) BadLevel 0

@@ -7,7 +7,7 @@ use Rattle.code_tables.specs.Mcbpc.{mcbpc, dquant, IsInTable, IsStep, mcbpc_text
 use Rattle.code_tables.specs.Tables.{cbpy, cbpy_text, mvd, mvd_text, event, event_text, Coefficient, IsEvent}
 
 -- no table has a part that is read again and again
-pub record AreProductive : Type 0 where
+pub record AreTablesProductive : Type 0 where
   pub mcbpc : (kind : Kind) → IsProductive (mcbpc kind)
   pub cbpy : (intra : Bool) → IsProductive (cbpy intra)
   pub dquant : IsProductive dquant
@@ -15,7 +15,7 @@ pub record AreProductive : Type 0 where
   pub event : IsProductive event
 
 -- what is written is spelled
-pub record AreSpelt : Type 0 where
+pub record AreTablesSpelt : Type 0 where
   pub mcbpc : (kind : Kind) (m : Mcbpc) → IsInTable kind m → Spells (mcbpc kind) m (mcbpc_text kind m)
   pub cbpy : (intra : Bool) (pattern : ℕ) → pattern < 16 → Spells (cbpy intra) pattern (cbpy_text intra pattern)
   pub dquant : (step : ℤ) → IsStep step → Spells dquant step (dquant_text step)
@@ -23,5 +23,5 @@ pub record AreSpelt : Type 0 where
   pub event : (e : Coefficient) → IsEvent e → Spells event e (event_text e)
 
 pub record TableLaws : Type 0 where
-  pub productive : AreProductive
-  pub spelt : AreSpelt
+  pub productive : AreTablesProductive
+  pub spelt : AreTablesSpelt

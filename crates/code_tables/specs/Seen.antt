@@ -7,20 +7,20 @@ use Rattle.h263_bits.specs.Syntax.{reading, word_at}
 use Rattle.code_tables.specs.declared.difference_bits.SeenDifference.{SeenDifference}
 use Rattle.code_tables.specs.declared.event_bits.SeenEvent.{SeenEvent}
 use Rattle.code_tables.specs.Events.{coefficient_of}
-use Rattle.code_tables.specs.Tables.{Event, magnitude_words, mvd, tcoef_words, event, event_parts}
+use Rattle.code_tables.specs.Tables.{TableEvent, magnitude_words, mvd, tcoef_words, event, event_parts}
 
 -- All bits of which the first n are this number begin with the word of an event, or of an escape.
-abbrev pub IsWordIn : ℕ → ℕ → Option Event → ℕ → Type 0
+abbrev pub IsWordIn : ℕ → ℕ → Option TableEvent → ℕ → Type 0
 IsWordIn n seen meaning len = (b : Bits) → n ≤ length b.bits → number (take n b.bits) ≡ seen
     → word_at tcoef_words b ≡ Ok (meaning, skip len b)
 
 -- All bits of which the first n are this number begin with this event, which has no more bits.
-pub record IsFirst (n : ℕ) (b : Bits) (found : SeenEvent) : Type 0 where
+pub record IsFirstEvent (n : ℕ) (b : Bits) (found : SeenEvent) : Type 0 where
   pub few : found.len ≤ n
   pub read : reading event_parts b ≡ Ok (coefficient_of found.event, skip found.len b)
 
 abbrev pub IsEventIn : ℕ → ℕ → SeenEvent → Type 0
-IsEventIn n seen found = (b : Bits) → n ≤ length b.bits → number (take n b.bits) ≡ seen → IsFirst n b found
+IsEventIn n seen found = (b : Bits) → n ≤ length b.bits → number (take n b.bits) ≡ seen → IsFirstEvent n b found
 
 -- Bits begin with this event, and have all of its own.
 pub record IsNextEvent (b : Bits) (found : SeenEvent) : Type 0 where

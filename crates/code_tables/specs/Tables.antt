@@ -3,7 +3,7 @@ use Rattle.std.specs.Prelude.{length, drop, count_by, is_some, ◌&&◌, ℕ, su
 use Rattle.h263_bits.specs.declared.fault.FaultKind.TheVariants.{BadCode, BadLevel}
 use Rattle.h263_bits.specs.Bits.{fields}
 use Rattle.h263_bits.specs.Syntax.{Syntax, Words, Allowed, any, code, done, field, element, either, begins, is_prefix_free}
-use Rattle.code_tables.specs.Words.{word, from_number, text_at}
+use Rattle.code_tables.specs.Words.{word, numbered_from, text_at}
 
 -- the words of CBPY in an intra macroblock, patterns 0 to 15
 unfoldable pub cbpy_texts : List (List Bool)
@@ -12,7 +12,7 @@ cbpy_texts = word "0011" ∷ word "00101" ∷ word "00100" ∷ word "1001"
     ∷ word "0101" ∷ word "1010" ∷ word "0100" ∷ word "1000" ∷ word "0110" ∷ word "11" ∷ []
 
 unfoldable pub cbpy_words : List (List Bool × ℕ)
-cbpy_words = from_number 0 cbpy_texts
+cbpy_words = numbered_from 0 cbpy_texts
 
 unfoldable pub cbpy_table : Words ℕ
 unfolding cbpy_words cbpy_texts begins is_prefix_free
@@ -37,7 +37,7 @@ magnitude_texts = word "1" ∷ word "01" ∷ word "001" ∷ word "0001" ∷ word
     ∷ word "00000000011" ∷ word "00000000010" ∷ word "000000000011" ∷ word "000000000010" ∷ []
 
 unfoldable pub magnitude_words : List (List Bool × ℕ)
-magnitude_words = from_number 0 magnitude_texts
+magnitude_words = numbered_from 0 magnitude_texts
 
 unfoldable pub magnitude_table : Words ℕ
 unfolding magnitude_words magnitude_texts begins is_prefix_free
@@ -46,19 +46,19 @@ magnitude_table = record { list = magnitude_words; apart = refl }
 -- ---- TCOEF
 
 -- LAST, RUN and the size of LEVEL
-pub record Event : Type 0 where
+pub record TableEvent : Type 0 where
   pub last : Bool
   pub run : ℕ
   pub size : ℕ
 
 -- the words for sizes from n on
-abbrev pub sized : Bool → ℕ → ℕ → List (List Bool) → List (List Bool × Option Event)
+abbrev pub sized : Bool → ℕ → ℕ → List (List Bool) → List (List Bool × Option TableEvent)
 sized last run n [] = []
 sized last run n (w ∷ ws) = (w, Some (record { last = last; run = run; size = n })) ∷ sized last run (n + 1) ws
 
 -- the words of one LAST and RUN, for sizes 1, 2, 3 and so on
-abbrev pub events : Bool → ℕ → List (List Bool) → List (List Bool × Option Event)
-events last run words = sized last run 1 words
+abbrev pub words_of_events : Bool → ℕ → List (List Bool) → List (List Bool × Option TableEvent)
+words_of_events last run words = sized last run 1 words
 
 -- the words of LAST 0: a row for each RUN from 0 on, for sizes 1, 2, 3 and so on
 unfoldable pub last_0_texts : List (List (List Bool))
@@ -139,15 +139,15 @@ last_1_texts =
     (word "000001011111" ∷ []) ∷ []
 
 -- the words of the rows, RUN from run on
-abbrev pub from_runs : Bool → ℕ → List (List (List Bool)) → List (List Bool × Option Event)
+abbrev pub from_runs : Bool → ℕ → List (List (List Bool)) → List (List Bool × Option TableEvent)
 from_runs last run [] = []
-from_runs last run (row ∷ rows) = events last run row ++ from_runs last (run + 1) rows
+from_runs last run (row ∷ rows) = words_of_events last run row ++ from_runs last (run + 1) rows
 
 -- the words of events, and the escape, which stands for none
-unfoldable pub tcoef_words : List (List Bool × Option Event)
+unfoldable pub tcoef_words : List (List Bool × Option TableEvent)
 tcoef_words = from_runs false 0 last_0_texts ++ from_runs true 0 last_1_texts ++ (word "0000011", None) ∷ []
 
-unfoldable pub event_table : Words (Option Event)
+unfoldable pub event_table : Words (Option TableEvent)
 unfolding tcoef_words last_0_texts last_1_texts begins is_prefix_free
 event_table = record { list = tcoef_words; apart = refl }
 
@@ -169,11 +169,11 @@ pub record Coefficient : Type 0 where
 abbrev pub allowed_level : Allowed ℕ
 allowed_level n = if n == 0 then Some BadLevel else if n == 128 then Some BadLevel else None
 
-abbrev pub level_of : ℕ → ℤ
-level_of n = if nat_lt n 128 then pos n else neg_ℤ (pos (256 - n))
+abbrev pub escaped_level : ℕ → ℤ
+escaped_level n = if nat_lt n 128 then pos n else neg_ℤ (pos (256 - n))
 
 -- what follows a word: a sign, or the fields of the escape
-abbrev pub after_word : Option Event → Syntax Coefficient
+abbrev pub after_word : Option TableEvent → Syntax Coefficient
 after_word (Some e) =
     field 1 any λ sign.
     done (record { last = e.last; run = e.run; level = signed sign e.size })
@@ -181,7 +181,7 @@ after_word None =
     field 1 any λ last.
     field 6 any λ run.
     field 8 allowed_level λ level.
-    done (record { last = last == 1; run = run; level = level_of level })
+    done (record { last = last == 1; run = run; level = escaped_level level })
 
 unfoldable pub event_parts : Syntax Coefficient
 event_parts = code event_table after_word
@@ -231,13 +231,13 @@ mvd_text v = text_at magnitude_texts (size_of v) ++ sign_text v
 -- ---- what is written for an event
 
 -- the rows of a LAST
-abbrev pub rows_of : Bool → List (List (List Bool))
-rows_of false = last_0_texts
-rows_of true = last_1_texts
+abbrev pub texts_of_last : Bool → List (List (List Bool))
+texts_of_last false = last_0_texts
+texts_of_last true = last_1_texts
 
 -- the word of LAST, RUN and a size from 1 on, if they have one
 unfoldable pub triple_text : Bool → ℕ → ℕ → Option (List Bool)
-triple_text last run size = option_and_then (λ row. slice_get row (size - 1)) (slice_get (rows_of last) run)
+triple_text last run size = option_and_then (λ row. slice_get row (size - 1)) (slice_get (texts_of_last last) run)
 
 -- LEVEL in two's complement of eight bits
 abbrev pub byte_of : ℤ → ℕ

@@ -1,7 +1,7 @@
 //! Events as numbers: a sign, LEVEL of an escape, and a whole event by one look at its bits.
 ghost use Rattle.std.specs.Prelude.{◌≡◌, ◌≢◌, ◌+◌, ◌<◌, ◌≤◌, ◌/◌, ◌%◌, ◌^◌, length, slice_get, IfSome, IsTrue, None};
 ghost use Rattle.code_tables.specs.Words.{code_at};
-ghost use Rattle.code_tables.specs.Tables.{signed, level_of};
+ghost use Rattle.code_tables.specs.Tables.{signed, escaped_level};
 ghost use Rattle.code_tables.specs.Packed.{is_packed};
 ghost use Rattle.code_tables.specs.Seen.{IsWordIn, IsEventIn};
 
@@ -27,7 +27,7 @@ pub fn level_at(levels: &[Level], place: usize) -> Option<Level>
 pub fn escape_level(bits: u32) -> i8
     requires byte { bits < 256 }
     requires in_range { bits ≢ 128 }
-    ensures { result ≡ level_of bits }
+    ensures { result ≡ escaped_level bits }
 {
     if bits < 128 {
         bits as i8

@@ -8,7 +8,7 @@ ghost use Rattle.code_tables.specs.Mcbpc.{mcbpc, dquant};
 ghost use Rattle.code_tables.specs.Tables.{cbpy, mvd, tcoef_words, words_of_length, event, Coefficient};
 ghost use Rattle.code_tables.specs.EventWords.{IsEventFault};
 ghost use Rattle.code_tables.specs.Faults.{WordFaults};
-ghost use Rattle.code_tables.specs.Laws.{AreSpelt, TableLaws};
+ghost use Rattle.code_tables.specs.Laws.{AreTablesSpelt, TableLaws};
 ghost use Rattle.code_tables.specs.declared.macroblock.Mcbpc.{Mcbpc};
 
 /// Of two texts of which one begins the other both are the same, and spell the same value: in each
@@ -28,7 +28,7 @@ pub fn one_reading()
 
 /// What is written for a value is a text of it.
 pub fn written_is_text()
-    ensures { AreSpelt }
+    ensures { AreTablesSpelt }
 {}
 
 /// The first faults of words: each word is cut or there is none, MVD by its words with their signs;

@@ -4,12 +4,12 @@ ghost use Rattle.h263_bits.specs.Written.{Appends, len_of, room_of};
 ghost use Rattle.h263_bits.specs.Bits.{fields, spelled};
 ghost use Rattle.code_tables.specs.Words.{text_at, code_at, word_of, place_in};
 ghost use Rattle.code_tables.specs.Starts.{starts_of};
-ghost use Rattle.code_tables.specs.Rows.{row_at, place_in_row};
+ghost use Rattle.code_tables.specs.Rows.{table_row, place_in_row};
 ghost use Rattle.h263_bits.specs.Reading.{Gives, Takes};
 ghost use Rattle.h263_bits.specs.Syntax.{reading, word_at, Spells};
 ghost use Rattle.h263_bits.specs.Elements.{IsWordOf, IsWordFault};
 ghost use Rattle.code_tables.specs.EventWords.{IsEventFault};
-ghost use Rattle.code_tables.specs.Tables.{cbpy, cbpy_texts, cbpy_text, magnitude_texts, size_of, sign_text, mvd_text, cbpy_words, magnitude_table, event_table, mvd, mvd_words, Coefficient as Event, signed, level_of, mvd_parts, event, event_parts, byte_of, escape_fields, event_text, IsEvent};
+ghost use Rattle.code_tables.specs.Tables.{cbpy, cbpy_texts, cbpy_text, magnitude_texts, size_of, sign_text, mvd_text, cbpy_words, magnitude_table, event_table, mvd, mvd_words, Coefficient as Event, signed, escaped_level, mvd_parts, event, event_parts, byte_of, escape_fields, event_text, IsEvent};
 ghost use Rattle.code_tables.specs.Events.{event_of_code, coefficient_of};
 ghost use Rattle.code_tables.specs.Seen.{IsNextEvent};
 
@@ -298,7 +298,7 @@ fn row_place(rows: &[Row], run: usize, size: usize) -> Option<usize>
     requires size { 0 < size }
     requires small { size < 256 }
     requires run { run < length rows.now }
-    ensures { result ≡ place_in_row (row_at rows.now run) size }
+    ensures { result ≡ place_in_row (table_row rows.now run) size }
 {
     let row = rows[run];
     if size <= row.count as usize {

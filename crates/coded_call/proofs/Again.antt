@@ -16,7 +16,7 @@ use Rattle.h263_bits.specs.Bits.{bits_of}
 use Rattle.h263_bits.specs.Reading.{Bits}
 use Rattle.picture_header.specs.declared.header.Header.{Header}
 use Rattle.picture_header.specs.Ranges.{IsHeader}
-use Rattle.macroblock_layer.specs.Written.{IsNear, IsReached, IsStepped}
+use Rattle.macroblock_layer.specs.Written.{DquantReaches, IsReached, IsStepped}
 use Rattle.rtp_header.specs.declared.rtp.Rtp.{Rtp}
 use Rattle.rtp_header.specs.Text.{IsRtp}
 use Rattle.rtp_header.specs.Faults.{rtp_in}
@@ -47,7 +47,7 @@ pub record PacketLaws : Type 0 where
       → 0 < length run → first + length run ≤ mbs_of h.format → AreWritable (around h first) h.quant [] run
       → bits_of bytes ≡ packet_text number sequence marker h first run → length bytes ≤ 65535
       → IsReadAs number sequence marker h first run bytes
-  pub spelled : (format : Format) (s : collector.Slice) (bytes : List ℕ) → IsPacket format s bytes
+  pub spelled : (format : Format) (s : collector.PacketSlice) (bytes : List ℕ) → IsPacket format s bytes
       → packet_at format bytes ≡ Ok s
   pub rtp : (r : Rtp) (bytes : List ℕ) → rtp_in bytes ≡ Ok r → IsRtp r bytes
   pub payload : (format : Format) (p : Payload) (b : Bits) → payload_at format b ≡ Ok p → IsPayload format p b
@@ -82,7 +82,7 @@ quant_stays q Skip is = refl
 quant_stays q (Intra n blocks) is = is
 quant_stays q (Inter n v blocks) is = is
 
-near_itself : (q n : ℕ) → n ≡ q → IsNear q n
+near_itself : (q n : ℕ) → n ≡ q → DquantReaches q n
 near_itself q n is = record { up = omega (arith, is); down = omega (arith, is) }
 
 stepped : (q : ℕ) (m : Mb) → HasQuant q m → IsStepped q m

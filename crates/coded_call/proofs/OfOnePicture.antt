@@ -12,18 +12,18 @@ use Rattle.call_model.specs.CodedPictures.{Coded}
 use Rattle.call_model.specs.IdealCall.{Event, Send, Deliver, Play, Back, Call, Source, AllMayHappen, call_from, encoded, ideal}
 use Rattle.call_model.specs.JoinedRun.{joined, new_receiver, EachEndRuns, Joined}
 use Rattle.call_model.specs.Lawful.{Covers, IsRules, IsPace}
-use Rattle.call_model.specs.Order.{IsIn, others, is_own, number_at, played_after, SameOrApart, InPlace, AreOfOne, IsNamed, AnyOrder}
+use Rattle.call_model.specs.Order.{IsOneOf, others, is_own, number_of_bytes, played_after, SameOrApart, InPlace, AreOfOne, IsNamed, AnyOrder}
 use Rattle.call_model.specs.Receiving.{ReceiverEntry, ReceiverRun, Packet, PlayNext, is_complete, piece_number, receiver_run}
 use Rattle.call_model.specs.ReceiverStanding.{CompleteStays}
-use Rattle.call_model.specs.Sending.{header_of, packets_of, nearest, nearest_below, NearestIsInPeriod}
-use Rattle.call_model.specs.Sound.{Packets, IsPacket, AllSound, EncoderIsSound}
+use Rattle.call_model.specs.Sending.{header_of, packets_at, nearest, nearest_below, NearestIsInPeriod}
+use Rattle.call_model.specs.Sound.{Packets, IsPacketOfSlice, AllSound, EncoderIsSound}
 use Rattle.call_model.specs.TwoStores.{EndsFollow}
 use Rattle.coded_call.specs.OfOnePicture.{AreAmong, ComeInTime, NoneIsEarly, come_in, SentAreOfOne, SentInAnyOrder}
 
 -- ---- lists
 
 -- what is in a list has a place there
-place_in : (x : List ℕ) (xs : List (List ℕ)) → IsIn x xs → (j : ℕ) × (slice_get xs j ≡ Some x)
+place_in : (x : List ℕ) (xs : List (List ℕ)) → IsOneOf x xs → (j : ℕ) × (slice_get xs j ≡ Some x)
 place_in x [] is = absurd is
 place_in x (y ∷ xs) (inl here) = (0, ap (λ (z : List ℕ). let o : Option (List ℕ) = Some z in o) (sym here))
 place_in x (y ∷ xs) (inr there) = let r = place_in x xs there in (suc r.0, r.1)
@@ -98,7 +98,7 @@ module _ {Style Mb Picture Fault : Type 0} (decoding : Decoding Style Mb Picture
 
   -- so is each of its packets
   slice_at : (packets : List (List ℕ)) (n : ℕ) (x : Coded Style Mb Picture) (j : ℕ)
-      → IsPacket decoding rules packets n j x → (bytes : List ℕ) → slice_get packets j ≡ Some bytes
+      → IsPacketOfSlice decoding rules packets n j x → (bytes : List ℕ) → slice_get packets j ≡ Some bytes
       → IsSliceOf n x bytes
   slice_at packets n x j one bytes at = go (slice_get x.slices j) refl
     where
@@ -110,7 +110,8 @@ module _ {Style Mb Picture Fault : Type 0} (decoding : Decoding Style Mb Picture
           record { place = j; slice = slice; at_place = some; read = ap decoding.read (sym same) ∙ got.2 }
 
   slice_of : (packets : List (List ℕ)) (n : ℕ) (x : Coded Style Mb Picture)
-      → ((j : ℕ) → IsPacket decoding rules packets n j x) → (bytes : List ℕ) → IsIn bytes packets → IsSliceOf n x bytes
+      → ((j : ℕ) → IsPacketOfSlice decoding rules packets n j x) → (bytes : List ℕ) → IsOneOf bytes packets
+      → IsSliceOf n x bytes
   slice_of packets n x each bytes is_in = let p = place_in bytes packets is_in in
       slice_at packets n x p.0 (each p.0) bytes p.1
 
@@ -127,7 +128,7 @@ module _ {Style Mb Picture Fault : Type 0} (decoding : Decoding Style Mb Picture
   in_place n reference near (PlayNext ∷ past) in_time = in_place n reference near past in_time
 
   of_one : (packets : List (List ℕ)) (n : ℕ) (x : Coded Style Mb Picture) (entries : List ReceiverEntry)
-      → Covers rules.mbs x.slices → ((j : ℕ) → IsPacket decoding rules packets n j x)
+      → Covers rules.mbs x.slices → ((j : ℕ) → IsPacketOfSlice decoding rules packets n j x)
       → ((m : ℕ) → x.reference ≡ Some m → n ≤ m + window rules) → AreAmong decoding rules n packets entries
       → ComeInTime decoding rules n x.reference entries
       → AreOfOne decoding rules n (header_of rules n x) x.reference entries
@@ -184,7 +185,7 @@ module _ {Style Mb Picture Fault : Type 0} (decoding : Decoding Style Mb Picture
   own_number : NearestIsInPeriod → IsRules rules → (m n played : ℕ) (x : Coded Style Mb Picture) (bytes : List ℕ)
       → IsSliceOf m x bytes → m < played + rules.half → played < m + rules.half
       → is_own decoding rules n played bytes ≡ true → m ≡ n
-  unfolding is_own number_at piece_number nearest header_of
+  unfolding is_own number_of_bytes piece_number nearest header_of
   own_number near ruled m n played x bytes is ahead behind own =
       let positive : 0 < period rules = omega (arith, ruled.lead_small, ruled.slots_small) in
       let number : nearest_below rules (played + rules.half) (m % period rules) ≡ Some m =
@@ -236,8 +237,8 @@ module _ {Frame Style Mb Picture Fault MessageFault : Type 0}
   sent_are_of_one laws pace frames past n x entries paced near =
       subst P (sym ends.agree.pictures) (λ at among in_time. (
         named coding.decoding rules laws.nearest laws.rules_fit n x (reference_of at),
-        of_one coding.decoding rules (packets_of coding.encoding rules c.coded n) n x entries
-            (covered coding.decoding rules (encoded coding rules pace frames) (packets_of coding.encoding rules) past
+        of_one coding.decoding rules (packets_at coding.encoding rules c.coded n) n x entries
+            (covered coding.decoding rules (encoded coding rules pace frames) (packets_at coding.encoding rules) past
             (laws.sound pace frames past paced) n x at)
             (λ j. (laws.sound pace frames (Deliver n j ∷ past) paced).0 x at)
             (λ m e. (reference_of at m e).1) among in_time,
@@ -255,7 +256,7 @@ module _ {Frame Style Mb Picture Fault MessageFault : Type 0}
 
       P : List (Coded Style Mb Picture) → Type 0
       P coded = slice_get coded n ≡ Some x
-          → AreAmong coding.decoding rules n (packets_of coding.encoding rules coded n) entries
+          → AreAmong coding.decoding rules n (packets_at coding.encoding rules coded n) entries
           → ComeInTime coding.decoding rules n x.reference entries
           → IsNamed coding.decoding rules n (header_of rules n x) x.reference
           × AreOfOne coding.decoding rules n (header_of rules n x) x.reference entries
@@ -294,15 +295,15 @@ module _ {Frame Style Mb Picture Fault MessageFault : Type 0}
     -- a packet that is delivered is of its own picture, which was sent
     own_was_sent : (past : List Event) → AllMayHappen coding rules pace frames past → (m j : ℕ)
         → m < length (ideal_of past).coded → (ideal_of past).played < m + rules.half
-        → (bytes : List ℕ) → slice_get (packets_of coding.encoding rules (both_of past).sender.coded m) j ≡ Some bytes
+        → (bytes : List ℕ) → slice_get (packets_at coding.encoding rules (both_of past).sender.coded m) j ≡ Some bytes
         → (n : ℕ) → is_own coding.decoding rules n (played_after (come past)) bytes ≡ true → m ≡ n
     own_was_sent past near m j sent behind bytes at n own =
         elim (slice_get_cases (ideal_of past).coded m).1 [
           | inl there ↦
               own_number coding.decoding rules laws.nearest laws.rules_fit m n (played_after (come past)) there.0 bytes
-              (slice_at coding.decoding rules (packets_of coding.encoding rules (ideal_of past).coded m) m there.0 j
+              (slice_at coding.decoding rules (packets_at coding.encoding rules (ideal_of past).coded m) m there.0 j
               ((laws.sound pace frames (Deliver m j ∷ past) paced).0 there.0 there.2) bytes
-              (ap (λ (coded : List (Coded Style Mb Picture)). slice_get (packets_of coding.encoding rules coded m) j)
+              (ap (λ (coded : List (Coded Style Mb Picture)). slice_get (packets_at coding.encoding rules coded m) j)
               (sym ends.agree.pictures) ∙ at))
               (omega (arith, sent, ends.counts.1, played_there past near))
               (omega (arith, behind, played_there past near)) own
@@ -326,10 +327,10 @@ module _ {Frame Style Mb Picture Fault MessageFault : Type 0}
     none_yet n reference (Play ∷ past) near unsent = none_yet n reference past near.1 unsent
     none_yet n reference (Back k ∷ past) near unsent = none_yet n reference past near.1 unsent
     none_yet n reference (Deliver m j ∷ past) near unsent = go (none_yet n reference past near.1 unsent)
-        (slice_get (packets_of coding.encoding rules (both_of past).sender.coded m) j) refl
+        (slice_get (packets_at coding.encoding rules (both_of past).sender.coded m) j) refl
       where
         go : ComeInTime coding.decoding rules n reference (come past) → (o : Option (List ℕ))
-            → slice_get (packets_of coding.encoding rules (both_of past).sender.coded m) j ≡ o
+            → slice_get (packets_at coding.encoding rules (both_of past).sender.coded m) j ≡ o
             → ComeInTime coding.decoding rules n reference (option_map_or (λ (bytes : List ℕ). Packet bytes ∷ []) o []
             ++ come past)
         go before None at = before
@@ -365,7 +366,7 @@ module _ {Frame Style Mb Picture Fault MessageFault : Type 0}
     came_in_time n x (Play ∷ past) near at until early = came_in_time n x past near.1 at (omega (arith, until)) early
     came_in_time n x (Back k ∷ past) near at until early = came_in_time n x past near.1 at until early
     came_in_time n x (Deliver m j ∷ past) near at until early = go (came_in_time n x past near.1 at)
-        (slice_get (packets_of coding.encoding rules (both_of past).sender.coded m) j) until early
+        (slice_get (packets_at coding.encoding rules (both_of past).sender.coded m) j) until early
       where
         go : (played_after (come past) ≤ n → NoneIsEarly coding.decoding rules n (come past)
             → ComeInTime coding.decoding rules n x.reference (come past)) → (o : Option (List ℕ))

@@ -7,7 +7,7 @@ use Rattle.h263_types.specs.Clocks.{half_of}
 use Rattle.h263_planes.specs.Picture.{Picture}
 use Rattle.h263_planes.specs.References.{HasReferenceOnlyInP}
 use Rattle.call_model.specs.Coding as call
-use Rattle.call_decoding.specs.Styles.{Style, clock_with, header_from, header_of}
+use Rattle.call_decoding.specs.Styles.{Style, clock_with, header_from, call_header_of}
 use Rattle.call_encoding.specs.Frames.{kind_of}
 
 clock_back : (clock : Clock) → half_of (clock_with (half_of clock)) ≡ half_of clock
@@ -15,7 +15,7 @@ clock_back Standard = refl
 clock_back Custom = refl
 
 -- a header of the call's clock is seen again
-pub header_back : (clock : Clock) (h : call.Header Style) → h.half ≡ half_of clock → header_of (header_from h) ≡ h
+pub header_back : (clock : Clock) (h : call.Header Style) → h.half ≡ half_of clock → call_header_of (header_from h) ≡ h
 header_back clock h half =
     let same : half_of (clock_with h.half) ≡ h.half =
     subst (λ (n : ℕ). half_of (clock_with n) ≡ n) (sym half) (clock_back clock)

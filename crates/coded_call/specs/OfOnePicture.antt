@@ -6,14 +6,14 @@ use Rattle.call_model.specs.CodedPictures.{Coded}
 use Rattle.call_model.specs.IdealCall.{Event, AllMayHappen}
 use Rattle.call_model.specs.JoinedRun.{joined, new_receiver, receiver_entries}
 use Rattle.call_model.specs.Lawful.{IsPace}
-use Rattle.call_model.specs.Order.{IsIn, own, is_own, played_after, shown_in, AreOfOne, DifferInPacketsOf, IsNamed, NextPlayIsSame}
+use Rattle.call_model.specs.Order.{IsOneOf, own, is_own, played_after, shown_in, AreOfOne, DifferInPacketsOf, IsNamed, NextPlayIsSame}
 use Rattle.call_model.specs.Receiving.{ReceiverEntry, Packet, PlayNext, is_complete, receiver_run}
-use Rattle.call_model.specs.Sending.{header_of, packets_of}
+use Rattle.call_model.specs.Sending.{header_of, packets_at}
 
 module _ {Style Mb Picture Fault : Type 0} (decoding : Decoding Style Mb Picture Fault) (rules : Rules) where
   -- each packet of n in the entries is one of these packets
   abbrev pub AreAmong : ℕ → List (List ℕ) → List ReceiverEntry → Type 0
-  AreAmong n packets entries = (bytes : List ℕ) → IsIn bytes (own decoding rules n entries) → IsIn bytes packets
+  AreAmong n packets entries = (bytes : List ℕ) → IsOneOf bytes (own decoding rules n entries) → IsOneOf bytes packets
 
   -- where each packet of n stands, n is open and its reference, if it has one, is complete
   abbrev pub ComeInTime : ℕ → Option ℕ → List ReceiverEntry → Type 0
@@ -34,8 +34,8 @@ module _ {Style Mb Picture Fault : Type 0} (decoding : Decoding Style Mb Picture
   NoneIsEarly n (PlayNext ∷ past) = NoneIsEarly n past
 
   -- each play up to the play of n, which is the next one, shows the same, with the same mark
-  abbrev pub ShowTheSame : ℕ → List ReceiverEntry → List ReceiverEntry → Type 0
-  ShowTheSame n a b =
+  abbrev pub EntriesShowTheSame : ℕ → List ReceiverEntry → List ReceiverEntry → Type 0
+  EntriesShowTheSame n a b =
       ((p : ℕ) → p < n → shown_in decoding rules p a ≡ shown_in decoding rules p b)
       × NextPlayIsSame decoding rules a b
 
@@ -47,7 +47,7 @@ module _ {Frame Style Mb Picture Fault MessageFault : Type 0}
 
   -- its packets of picture n
   abbrev pub sent_packets : (List ℕ → ℕ) → List Frame → List Event → ℕ → List (List ℕ)
-  sent_packets pace frames past n = packets_of coding.encoding rules (coded_in pace frames past) n
+  sent_packets pace frames past n = packets_at coding.encoding rules (coded_in pace frames past) n
 
   -- what has come to the receiver in this run
   abbrev pub come_in : (List ℕ → ℕ) → List Frame → List Event → List ReceiverEntry
@@ -83,4 +83,4 @@ module _ {Frame Style Mb Picture Fault MessageFault : Type 0}
       → AreAmong coding.decoding rules n (sent_packets pace frames past n) (a ++ before)
       → DifferInPacketsOf coding.decoding rules n (a ++ before) (b ++ before)
       → played_after (a ++ before) ≡ n
-      → ShowTheSame coding.decoding rules n (a ++ before) (b ++ before)
+      → EntriesShowTheSame coding.decoding rules n (a ++ before) (b ++ before)

@@ -7,7 +7,7 @@ ghost use Rattle.h263_types.specs.declared.clock.Clock.{Clock};
 ghost use Rattle.h263_types.specs.declared.params.Params.{Params};
 ghost use Rattle.h263_types.specs.Params.{IsParams};
 ghost use Rattle.h263_types.specs.Sizes.{mbs_of};
-ghost use Rattle.back_messages.specs.Said.{text_of};
+ghost use Rattle.back_messages.specs.Said.{text_of_said};
 ghost use Rattle.back_messages.specs.Text.{IsMessage};
 ghost use Rattle.back_messages.specs.declared.message.Message.{Message as BackMessage};
 ghost use Rattle.back_messages.specs.declared.writing.Said.{Said};
@@ -26,7 +26,7 @@ ghost use Rattle.call_model.specs.Lawful.{IsCoding, IsPace};
 ghost use Rattle.call_model.specs.TwoStores.{EndsFollow};
 ghost use Rattle.call_decoding.specs.Rules.{rules_of};
 ghost use Rattle.call_encoding.specs.Frames.{Frame};
-ghost use Rattle.call_encoding.specs.Messages.{marked, write_message};
+ghost use Rattle.call_encoding.specs.Messages.{marked_message, write_message};
 ghost use Rattle.coded_call.specs.Bytes.{AreBytes};
 ghost use Rattle.coded_call.specs.Coding.{coding};
 ghost use Rattle.coded_call.specs.OfOnePicture.{SentAreOfOne, SentInAnyOrder};
@@ -142,10 +142,10 @@ pub fn any_order()
 /// The bytes that a receiver says of a message are those that are written of it (`written`). A
 /// message of the program, as a call has it, is that message again (`marked_again`).
 pub fn said_bytes()
-    ensures written { (clock : Clock) (said : Said) (message : Message) → AreBytes (text_of said)
-        → IsSaid clock said message → text_of said ≡ write_message message }
+    ensures written { (clock : Clock) (said : Said) (message : Message) → AreBytes (text_of_said said)
+        → IsSaid clock said message → text_of_said said ≡ write_message message }
     ensures marked_again { (clock : Clock) (m : BackMessage)
-        → IsMessage clock m → marked (message_of m) ≡ m }
+        → IsMessage clock m → marked_message (message_of m) ≡ m }
 {
     exact_text();
     in_a_syntax();

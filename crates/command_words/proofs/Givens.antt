@@ -7,7 +7,8 @@ use Rattle.clap.specs.Walk.{Row, first_of, has_row, with_values, without}
 use Rattle.clap.specs.declared.builder.value_parser.Reading.TheVariants.{AsWritten}
 use Rattle.clap.specs.declared.parser.matches.ValueSource.TheVariants.{CommandLine}
 use Rattle.clap.specs.Takes.{is_given}
-use Rattle.command_words.specs.Simple.{Text, Given, gives, value, is_once, with_given, whole_or_none}
+use Rattle.h263_types.specs.Texts.{Text}
+use Rattle.command_words.specs.Simple.{Given, gives, value, is_once, with_given, whole_or_none}
 
 -- the row of a value that was given
 abbrev pub row_for : Given → Row

@@ -4,10 +4,11 @@ use Rattle.std.specs.Prelude.{codes, is_some, option_and_then, option_map, if◌
 use Rattle.std.specs.List.{list_all}
 use Rattle.std.specs.Str.{bytes_eq}
 use Rattle.h263_types.specs.declared.params.Params.{Params}
-use Rattle.command_words.specs.Simple.{Text, Given, Options, gives, value, is_once, is_whole, named as named_by, taken, whole_or_none}
+use Rattle.h263_types.specs.Texts.{Text}
+use Rattle.command_words.specs.Simple.{Given, Options, gives, value, is_once, are_words_whole, named as named_by, taken, whole_or_none}
 use Rattle.command_words.specs.declared.command.Command.{Command}
 use Rattle.command_words.specs.declared.command.Command.TheVariants.{Call, Send, Recv, Demo, Rate, Audit, Duplex, Group}
-use Rattle.command_words.specs.Asked.{Asked, Row, call, send, recv, demo, rate, audit, duplex, group, call_of, send_of, send_with, target_or_none, recv_of, demo_of, seed_in, frames_in, rate_of, audit_of, duplex_of, group_of, receivers_by, target_in, bucket_in, asked_by, asked, asking, params_of, IsGiven, HasNames}
+use Rattle.command_words.specs.Asked.{Asked, Row, call, send, recv, demo, rate, audit, duplex, group, call_given, send_of, send_with, target_or_none, recv_of, demo_of, seed_in, frames_in, rate_of, audit_of, duplex_of, group_of, receivers_by, target_in, bucket_in, asked_by, asked, asking, params_of, IsGiven, HasNames}
 
 -- a value that is given is there
 value_there : (name : Text) (given : List Given) → gives name given ≡ true → IsGiven (value given name)
@@ -36,7 +37,8 @@ taken_gives : (places : List Text) (options : Options) (words : List Text) (give
     → list_all (λ name. gives name given) places ≡ true
 taken_gives places options words given is = go (named_by options places None words) is
   where
-    chosen : (found : List Given) (t : Bool) → is_whole places found ≡ t → (if t then Some found else None) ≡ Some given
+    chosen : (found : List Given) (t : Bool) → are_words_whole places found ≡ t → (if t then Some found else None)
+        ≡ Some given
         → list_all (λ name. gives name given) places ≡ true
     chosen found true whole same =
         subst (λ (l : List Given). list_all (λ name. gives name l) places ≡ true) (some_is same)
@@ -46,7 +48,7 @@ taken_gives places options words given is = go (named_by options places None wor
     go : (o : Option (List Given)) → whole_or_none places o ≡ Some given → list_all (λ name. gives name given) places
         ≡ true
     go None h = absurd (cc h)
-    go (Some found) h = chosen found (is_whole places found) refl h
+    go (Some found) h = chosen found (are_words_whole places found) refl h
 
 -- ---- command by command
 
@@ -64,7 +66,7 @@ module _ (given : List Given) where
   rest_there : (name : Text) (places : List Text) → given_all (name ∷ places) → given_all places
   rest_there name places all = second_of_both (gives name given) _ all
 
-  pub call_named : (c : Command) → given_all call.places → call_of (value given) ≡ Some c → named c
+  pub call_named : (c : Command) → given_all call.places → call_given (value given) ≡ Some c → named c
   call_named c all is = go (params_of (value given)) (value given (codes "trace")) refl is
     where
       video : IsGiven (value given (codes "in"))

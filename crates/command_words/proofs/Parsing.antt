@@ -15,7 +15,8 @@ use Rattle.clap.specs.declared.error.Error.{Error}
 use Rattle.clap.specs.declared.parser.matches.ArgMatches.{ArgMatches}
 use Rattle.command_words.specs.declared.simple.WordStop.{WordStop}
 use Rattle.command_words.specs.declared.simple.WordStop.TheVariants.{OutOfMemory, Usage}
-use Rattle.command_words.specs.Simple.{Text, Given, Options, taken}
+use Rattle.h263_types.specs.Texts.{Text}
+use Rattle.command_words.specs.Simple.{Given, Options, taken}
 use Rattle.command_words.specs.Clap.{Finds, option_rule, place_rule, stop_by, switch_rule, with_rules}
 use Rattle.command_words.proofs.Givens.{first_given}
 use Rattle.command_words.proofs.Rules.{all_left, filled_rules, option_at, place_at, places_from, rules_of, setting_of, switch_at}

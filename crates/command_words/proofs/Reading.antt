@@ -5,7 +5,8 @@ use mathlib.Core.Path.{fun_ext}
 use Rattle.clap.specs.Words.{first_value, found_of}
 use Rattle.clap.specs.declared.parser.matches.ArgMatches.{ArgMatches}
 use Rattle.command_words.specs.declared.command.Command.{Command}
-use Rattle.command_words.specs.Simple.{Text, Given, taken, value}
+use Rattle.h263_types.specs.Texts.{Text}
+use Rattle.command_words.specs.Simple.{Given, taken, value}
 use Rattle.command_words.specs.Clap.{Finds}
 use Rattle.command_words.specs.Asked.{Asked, Lookup, Row, asked, asked_by, asking}
 

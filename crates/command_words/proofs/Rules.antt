@@ -16,7 +16,8 @@ use Rattle.std.specs.List.{fold}
 use Rattle.clap.specs.Faults.{default_fault, defaults_fault}
 use Rattle.clap.specs.Takes.{is_given}
 use Rattle.clap.specs.Walk.{Row, has_row, is_empty, with_default}
-use Rattle.command_words.specs.Simple.{Text, Given, Options, gives, is_among}
+use Rattle.h263_types.specs.Texts.{Text}
+use Rattle.command_words.specs.Simple.{Given, Options, gives, is_name_among}
 use Rattle.command_words.proofs.Givens.{is_there, rows_for}
 use Rattle.command_words.specs.Clap.{place_rule, option_rule, switch_rule}
 
@@ -121,13 +122,13 @@ known_by_id (a ∷ c) name all h = go (bytes_eq a.id name) refl h (λ k. known_b
 pub same_bytes : (name : Text) → bytes_eq name name ≡ true
 same_bytes name = (bytes_eq-Decides name name).1 refl
 
-option_there : (options : List Text) (name : Text) → is_among options name ≡ true
+option_there : (options : List Text) (name : Text) → is_name_among options name ≡ true
     → is_some (arg_by_id (map option_at options) name) ≡ true
 option_there [] name h = cc
 option_there (o ∷ options) name h = go (bytes_eq o name) refl h (option_there options name)
   where
-    go : (t : Bool) → bytes_eq o name ≡ t → is_among (o ∷ options) name ≡ true
-        → (is_among options name ≡ true → is_some (arg_by_id (map option_at options) name) ≡ true)
+    go : (t : Bool) → bytes_eq o name ≡ t → is_name_among (o ∷ options) name ≡ true
+        → (is_name_among options name ≡ true → is_some (arg_by_id (map option_at options) name) ≡ true)
         → is_some (arg_by_id (map option_at (o ∷ options)) name) ≡ true
     go true e k rest = rw e refl
     go false e k rest = rw e (rest (rw e at k))
@@ -182,19 +183,19 @@ left_of front i (name ∷ names) options c all h small is =
 -- what has a long name: an option, else a switch, or nothing
 abbrev pub named_in : Options → Text → Option Rule
 named_in options name =
-    if is_among options.valued name then Some (option_at name)
-    else if is_among options.switches name then Some (switch_at name)
+    if is_name_among options.valued name then Some (option_at name)
+    else if is_name_among options.switches name then Some (switch_at name)
     else None
 
 switches_by_long : (switches : List Text) (name : Text) → arg_by_long (map switch_at switches) name
-    ≡ (if is_among switches name then Some (switch_at name) else None)
+    ≡ (if is_name_among switches name then Some (switch_at name) else None)
 switches_by_long [] name = refl
 switches_by_long (s ∷ switches) name = go (bytes_eq s name) refl (switches_by_long switches name)
   where
     go : (t : Bool) → bytes_eq s name ≡ t → arg_by_long (map switch_at switches) name
-        ≡ (if is_among switches name then Some (switch_at name) else None)
+        ≡ (if is_name_among switches name then Some (switch_at name) else None)
         → arg_by_long (map switch_at (s ∷ switches)) name
-        ≡ (if is_among (s ∷ switches) name then Some (switch_at name) else None)
+        ≡ (if is_name_among (s ∷ switches) name then Some (switch_at name) else None)
     go true e rest = rw e (ap (λ (n : Text). Some (switch_at n)) ((bytes_eq-Decides s name).0 e))
     go false e rest = rw e rest
 
@@ -344,7 +345,7 @@ left_first front switches i (name ∷ names) l = (
 pub record Setting (places : List Text) (options : Options) (c : List Rule) : Type 0 where
   pub by_long : (name : Text) → arg_by_long c name ≡ named_in options name
   pub by_short : (x : ℕ) → arg_by_short c x ≡ None
-  pub known : (name : Text) → is_among options.valued name ≡ true → Known c name
+  pub known : (name : Text) → is_name_among options.valued name ≡ true → Known c name
   pub plain : HaveNoDefault c
   pub missing : (given : List Given) → list_any (is_missing given) c ≡ not (list_all (λ name. gives name given) places)
 

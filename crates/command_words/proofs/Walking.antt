@@ -15,7 +15,8 @@ use Rattle.clap.specs.declared.error.kind.ErrorKind.{ErrorKind}
 use Rattle.clap.specs.declared.error.kind.ErrorKind.TheVariants.{ArgumentConflict, InvalidValue, MissingRequiredArgument, TooManyValues, UnknownArgument}
 use Rattle.clap.proofs.WalkLemmas.{bundle_ends}
 use Rattle.clap.proofs.FaultLemmas.{fault_ends}
-use Rattle.command_words.specs.Simple.{Text, Given, Options, Kind, dashes, long, short, plain, kind_of, after_word, gives, is_among, is_once, named, placed, taken, with_given}
+use Rattle.h263_types.specs.Texts.{Text}
+use Rattle.command_words.specs.Simple.{Given, Options, Kind, dashes, long, short, plain, word_kind, rest_after_word, gives, is_name_among, is_once, named, all_placed, taken, with_given}
 use Rattle.command_words.proofs.Givens.{rows_for, has_given, row_added, last_new, last_again, accepts, accepts_more, accepts_start, accepts_twice}
 use Rattle.command_words.proofs.Rules.{HaveNoDefault, Known, Left, Setting, place_at, option_at, switch_at, no_defaults, is_missing, same_bytes}
 
@@ -178,12 +179,12 @@ data IsBare (x : Text) : Type 0 where
   nothing_after : (flags : Text) → short_of x ≡ Some flags → slice_get (chars flags) 0 ≡ None → IsBare x
 
 data Looks (x : Text) : Type 0 where
-  as_dashes : bytes_eq x two_hyphens ≡ true → kind_of x ≡ dashes → Looks x
+  as_dashes : bytes_eq x two_hyphens ≡ true → word_kind x ≡ dashes → Looks x
   as_long : (n : Text) (v : Option Text) → bytes_eq x two_hyphens ≡ false → long_of x ≡ Some (n, v)
-      → kind_of x ≡ long n v → Looks x
+      → word_kind x ≡ long n v → Looks x
   as_short : (flags : Text) (first : ℕ) → bytes_eq x two_hyphens ≡ false → long_of x ≡ None → short_of x ≡ Some flags
-      → slice_get (chars flags) 0 ≡ Some first → kind_of x ≡ short → Looks x
-  as_plain : bytes_eq x two_hyphens ≡ false → long_of x ≡ None → IsBare x → kind_of x ≡ plain → Looks x
+      → slice_get (chars flags) 0 ≡ Some first → word_kind x ≡ short → Looks x
+  as_plain : bytes_eq x two_hyphens ≡ false → long_of x ≡ None → IsBare x → word_kind x ≡ plain → Looks x
 
 looks_short : (x : Text) → bytes_eq x two_hyphens ≡ false → long_of x ≡ None → (s : Option Text) → short_of x ≡ s
     → Looks x
@@ -234,7 +235,7 @@ abbrev TrailClaim : Text → List Text → List Rule → List Text → Type 0
 TrailClaim name places c xs = (done : List Given) (last : Option Given) (i : ℕ) (left : List Text) → is_once done ≡ true
     → KnownIn c (ready last) → Left c i left
     → Says (total name c (walk_at done (ready last) i true) xs) (ending c (walk_at done (ready last) i true) xs)
-    (accepts places (all_in done last) (placed left xs))
+    (accepts places (all_in done last) (all_placed left xs))
 
 abbrev before : List Given → Standing → List Given
 before done (ready last) = all_in done last
@@ -329,19 +330,19 @@ place_turn name c i n done pending at = rw at (place_fault c i n done pending)
 
 trails : (name : Text) (places : List Text) (options : Options) (c : List Rule) → Setting places options c
     → (xs : List Text) → TrailClaim name places c xs
-unfolding total placed walked
+unfolding total all_placed walked
 trails name places options c s [] done last i left once known l = at_end name places options c s done last once known
 trails name places options c s (x ∷ xs) done last i left once known l = go left l (settles c done last once known)
     (trails name places options c s xs)
   where
     go : (left : List Text) → Left c i left → Settling c done last → TrailClaim name places c xs
         → Says (total name c (walk_at done (ready last) i true) (x ∷ xs)) (ending c (walk_at done (ready last) i true)
-        (x ∷ xs)) (accepts places (all_in done last) (placed left (x ∷ xs)))
+        (x ∷ xs)) (accepts places (all_in done last) (all_placed left (x ∷ xs)))
     go [] l st rest = refuses name c (walk_at done (ready last) i true) x xs None UnknownArgument [] (rw l refl) refl
     go (n ∷ ns) l (twice fault again) rest =
         refuses name c (walk_at done (ready last) i true) x xs _ ArgumentConflict []
         (place_turn name c i n done (pending_in last) l.0
-        ∙ fault) (accepts_twice places (all_in done last) (placed (n ∷ ns) (x ∷ xs)) again)
+        ∙ fault) (accepts_twice places (all_in done last) (all_placed (n ∷ ns) (x ∷ xs)) again)
     go (n ∷ ns) l (free none to all_once) rest =
         goes name c (walk_at done (ready last) i true) (walk_at (all_in done last) (ready (Some (n, x))) (suc i) true) x
         xs _ (place_turn name c i n done (pending_in last) l.0 ∙ none)
@@ -349,7 +350,7 @@ trails name places options c s (x ∷ xs) done last i left once known l = go lef
         (subst (λ (o : Option (List Given)). Says
         (total name c (walk_at (all_in done last) (ready (Some (n, x))) (suc i) true) xs)
         (ending c (walk_at (all_in done last) (ready (Some (n, x))) (suc i) true) xs) o)
-        (sym (accepts_more places (all_in done last) n x (placed ns xs)))
+        (sym (accepts_more places (all_in done last) n x (all_placed ns xs)))
         (rest (all_in done last) (Some (n, x)) (suc i) ns all_once l.1 l.3))
 
 -- an option that waits never gets its value after `--`
@@ -369,22 +370,22 @@ still_waits name c n done i (m ∷ ms) (x ∷ xs) k l =
 
 -- the reading of one word
 one_word : (options : Options) (left : List Text) (next : Option Text) (x : Text) (xs : List Text) (k : Kind)
-    → kind_of x ≡ k
+    → word_kind x ≡ k
     → named options left next (x ∷ xs)
-    ≡ after_word options left next k x xs (λ others waits. named options others waits xs)
+    ≡ rest_after_word options left next k x xs (λ others waits. named options others waits xs)
 unfolding named
-one_word options left None x xs k e = ap (λ (kind : Kind). after_word options left None kind x xs
+one_word options left None x xs k e = ap (λ (kind : Kind). rest_after_word options left None kind x xs
     (λ others waits. named options others waits xs)) e
-one_word options left (Some n) x xs k e = ap (λ (kind : Kind). after_word options left (Some n) kind x xs
+one_word options left (Some n) x xs k e = ap (λ (kind : Kind). rest_after_word options left (Some n) kind x xs
     (λ others waits. named options others waits xs)) e
 
 -- an option of the command, a switch, or none
 option_of : (name : Text) (places : List Text) (options : Options) (c : List Rule) → Setting places options c
-    → (n : Text) → is_among options.valued n ≡ true → arg_by_long c n ≡ Some (option_at n)
+    → (n : Text) → is_name_among options.valued n ≡ true → arg_by_long c n ≡ Some (option_at n)
 option_of name places options c s n e = s.by_long n ∙ rw e refl
 
 other_of : (name : Text) (places : List Text) (options : Options) (c : List Rule) → Setting places options c
-    → (n : Text) (t : Bool) → is_among options.valued n ≡ false → is_among options.switches n ≡ t
+    → (n : Text) (t : Bool) → is_name_among options.valued n ≡ false → is_name_among options.switches n ≡ t
     → arg_by_long c n ≡ (if t then Some (switch_at n) else None)
 other_of name places options c s n t e f = s.by_long n ∙ rw (e, f) refl
 
@@ -533,8 +534,8 @@ SaysAt name places c w words before reading = Says (total name c w words) (endin
 refused_at : (name : Text) (places : List Text) (options : Options) (c : List Rule) (w : Walk) (x : Text)
     (xs : List Text) (given : List Given) (left : List Text) (next : Option Text) (kind : Kind) (k : ErrorKind)
     (ks : Kinds)
-    → kind_of x ≡ kind → turn_fault (shape name c) [] w x ≡ k ∷ ks
-    → accepts places given (after_word options left next kind x xs (λ others waits. named options others waits xs))
+    → word_kind x ≡ kind → turn_fault (shape name c) [] w x ≡ k ∷ ks
+    → accepts places given (rest_after_word options left next kind x xs (λ others waits. named options others waits xs))
     ≡ None
     → SaysAt name places c w (x ∷ xs) given (named options left next (x ∷ xs))
 refused_at name places options c w x xs given left next kind k ks seen fault none =
@@ -544,8 +545,8 @@ refused_at name places options c w x xs given left next kind k ks seen fault non
 goes_at : (name : Text) (places : List Text) (options : Options) (c : List Rule) (w w2 : Walk) (x : Text)
     (xs : List Text) (given more : List Given) (left : List Text) (next : Option Text) (kind : Kind)
     (reading : Option (List Given))
-    → kind_of x ≡ kind → turn_fault (shape name c) [] w x ≡ [] → walked c [] w x ≡ w2
-    → accepts places given (after_word options left next kind x xs (λ others waits. named options others waits xs))
+    → word_kind x ≡ kind → turn_fault (shape name c) [] w x ≡ [] → walked c [] w x ≡ w2
+    → accepts places given (rest_after_word options left next kind x xs (λ others waits. named options others waits xs))
     ≡ accepts places more reading
     → SaysAt name places c w2 xs more reading → SaysAt name places c w (x ∷ xs) given (named options left next (x ∷ xs))
 goes_at name places options c w w2 x xs given more left next kind reading seen clean to same says =
@@ -557,12 +558,12 @@ goes_at name places options c w w2 x xs given more left next kind reading seen c
 idle_value : (name : Text) (places : List Text) (options : Options) (c : List Rule) → (x : Text) (xs : List Text)
     → Claim name places options c xs
     → (done : List Given) (last : Option Given) (i : ℕ) (left : List Text) → Left c i left → Settling c done last
-    → (n v : Text) (o : Option Text) → kind_of x ≡ long n o
+    → (n v : Text) (o : Option Text) → word_kind x ≡ long n o
     → turn_fault (shape name c) [] (walk_at done (ready last) i false) x
     ≡ or_else (react_fault c false (option_at n) (v ∷ []) (held done (pending_in last))) []
     → walked c [] (walk_at done (ready last) i false) x
     ≡ between (reacted c (option_at n) (v ∷ []) (held done (pending_in last))) i false
-    → after_word options left None (long n o) x xs (λ others waits. named options others waits xs)
+    → rest_after_word options left None (long n o) x xs (λ others waits. named options others waits xs)
     ≡ with_given n v (named options left None xs)
     → SaysAt name places c (walk_at done (ready last) i false) (x ∷ xs) (all_in done last)
     (named options left None (x ∷ xs))
@@ -579,7 +580,7 @@ idle_value name places options c x xs rest done last i left l (free none to once
         → turn_fault (shape name c) [] (walk_at done (ready last) i false) x ≡ (if t then ArgumentConflict ∷ [] else [])
     turn t g = turns ∙ react_is c done last n v t g none to
 
-    reading : accepts places (all_in done last) (after_word options left None (long n o) x xs
+    reading : accepts places (all_in done last) (rest_after_word options left None (long n o) x xs
         (λ others waits. named options others waits xs))
         ≡ accepts places (all_in done last ++ (n, v) ∷ []) (named options left None xs)
     reading = ap (accepts places (all_in done last)) gives_it
@@ -604,8 +605,8 @@ idle_value name places options c x xs rest done last i left l (free none to once
 idle_other : (name : Text) (places : List Text) (options : Options) (c : List Rule) → Setting places options c
     → (x : Text) (xs : List Text) → Claim name places options c xs
     → (done : List Given) (last : Option Given) (i : ℕ) (left : List Text) → Left c i left → Settling c done last
-    → (n : Text) (v : Option Text) → bytes_eq x two_hyphens ≡ false → long_of x ≡ Some (n, v) → kind_of x ≡ long n v
-    → is_among options.valued n ≡ false → (t : Bool) → is_among options.switches n ≡ t
+    → (n : Text) (v : Option Text) → bytes_eq x two_hyphens ≡ false → long_of x ≡ Some (n, v) → word_kind x ≡ long n v
+    → is_name_among options.valued n ≡ false → (t : Bool) → is_name_among options.switches n ≡ t
     → SaysAt name places c (walk_at done (ready last) i false) (x ∷ xs) (all_in done last)
     (named options left None (x ∷ xs))
 idle_other name places options c s x xs rest done last i left l st n v d e seen none false among =
@@ -626,12 +627,13 @@ idle_other name places options c s x xs rest done last i left l st n (Some v) d 
 idle_long : (name : Text) (places : List Text) (options : Options) (c : List Rule) → Setting places options c
     → (x : Text) (xs : List Text) → Claim name places options c xs
     → (done : List Given) (last : Option Given) (i : ℕ) (left : List Text) → Left c i left → Settling c done last
-    → (n : Text) (v : Option Text) → bytes_eq x two_hyphens ≡ false → long_of x ≡ Some (n, v) → kind_of x ≡ long n v
-    → (t : Bool) → is_among options.valued n ≡ t
+    → (n : Text) (v : Option Text) → bytes_eq x two_hyphens ≡ false → long_of x ≡ Some (n, v) → word_kind x ≡ long n v
+    → (t : Bool) → is_name_among options.valued n ≡ t
     → SaysAt name places c (walk_at done (ready last) i false) (x ∷ xs) (all_in done last)
     (named options left None (x ∷ xs))
 idle_long name places options c s x xs rest done last i left l st n v d e seen false among =
-    idle_other name places options c s x xs rest done last i left l st n v d e seen among (is_among options.switches n)
+    idle_other name places options c s x xs rest done last i left l st n v d e seen among
+    (is_name_among options.switches n)
     refl
 idle_long name places options c s x xs rest done last i left l (twice fault again) n None d e seen true among =
     refused_at name places options c (walk_at done (ready last) i false) x xs (all_in done last) left None
@@ -655,7 +657,7 @@ idle_long name places options c s x xs rest done last i left l st n (Some v) d e
 idle_plain : (name : Text) (places : List Text) (options : Options) (c : List Rule) → Setting places options c
     → (x : Text) (xs : List Text) → Claim name places options c xs
     → (done : List Given) (last : Option Given) (i : ℕ) (left : List Text) → Left c i left → Settling c done last
-    → bytes_eq x two_hyphens ≡ false → long_of x ≡ None → IsBare x → kind_of x ≡ plain
+    → bytes_eq x two_hyphens ≡ false → long_of x ≡ None → IsBare x → word_kind x ≡ plain
     → SaysAt name places c (walk_at done (ready last) i false) (x ∷ xs) (all_in done last)
     (named options left None (x ∷ xs))
 idle_plain name places options c s x xs rest done last i [] l st d e bare seen =
@@ -685,11 +687,11 @@ idle_word : (name : Text) (places : List Text) (options : Options) (c : List Rul
 idle_word name places options c s x xs rest done last i left once known l (as_dashes d seen) =
     let step = dashes_idle name c done last i x d in
     goes_at name places options c (walk_at done (ready last) i false) (walk_at done (ready last) i true) x xs
-    (all_in done last) (all_in done last) left None dashes (placed left xs) seen step.0 step.1 refl
+    (all_in done last) (all_in done last) left None dashes (all_placed left xs) seen step.0 step.1 refl
     (trails name places options c s xs done last i left once known l)
 idle_word name places options c s x xs rest done last i left once known l (as_long n v d e seen) =
     idle_long name places options c s x xs rest done last i left l (settles c done last once known) n v d e seen
-    (is_among options.valued n) refl
+    (is_name_among options.valued n) refl
 idle_word name places options c s x xs rest done last i left once known l (as_short flags first d e f k seen) =
     refused_at name places options c (walk_at done (ready last) i false) x xs (all_in done last) left None short
     UnknownArgument [] seen
@@ -740,7 +742,7 @@ waiting_word name places options c s x xs rest done n i left once known l (as_da
     (Some n) dashes None seen step.0 step.1 refl
     (still_waits name c n done i left xs known l)
 waiting_word name places options c s x xs rest done n i left once known l (as_long m v d e seen) =
-    go (is_among options.valued m) refl
+    go (is_name_among options.valued m) refl
   where
     stops : (k : ErrorKind) → turn_fault (shape name c) [] (walk_at done (waits n) i false) x ≡ k ∷ []
         → SaysAt name places c (walk_at done (waits n) i false) (x ∷ xs) done (named options left (Some n) (x ∷ xs))
@@ -752,17 +754,17 @@ waiting_word name places options c s x xs rest done n i left once known l (as_lo
     at_switch None f at = stops InvalidValue (switch_waiting name c done n i x m known d f at)
     at_switch (Some w) f at = stops TooManyValues (switch_turn name c done (waits n) i x m w d f at)
 
-    other : (t : Bool) → is_among options.valued m ≡ false → is_among options.switches m ≡ t
+    other : (t : Bool) → is_name_among options.valued m ≡ false → is_name_among options.switches m ≡ t
         → SaysAt name places c (walk_at done (waits n) i false) (x ∷ xs) done (named options left (Some n) (x ∷ xs))
     other false none among = stops UnknownArgument (unknown_turn name c done (waits n) i x m v d e
         (other_of name places options c s m false none among))
     other true none among = at_switch v e (other_of name places options c s m true none among)
 
-    go : (t : Bool) → is_among options.valued m ≡ t
+    go : (t : Bool) → is_name_among options.valued m ≡ t
         → SaysAt name places c (walk_at done (waits n) i false) (x ∷ xs) done (named options left (Some n) (x ∷ xs))
     go true among = stops InvalidValue (long_waiting name c done n i x m v known d e
         (option_of name places options c s m among))
-    go false among = other (is_among options.switches m) among refl
+    go false among = other (is_name_among options.switches m) among refl
 waiting_word name places options c s x xs rest done n i left once known l (as_short flags first d e f k seen) =
     refused_at name places options c (walk_at done (waits n) i false) x xs done left (Some n) short UnknownArgument []
     seen

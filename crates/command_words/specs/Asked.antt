@@ -5,12 +5,13 @@ use Rattle.std.specs.Str.{bytes_eq}
 use Rattle.h263_outside.specs.Desk.{is_role}
 use Rattle.h263_outside.specs.declared.desk.Role.{Role}
 use Rattle.h263_outside.specs.declared.desk.Role.TheVariants.{Video, Events, Pictures, Wire, Video2, Pictures2}
-use Rattle.h263_types.specs.Params.{IsParams, default_params, ranges, verdict_of}
+use Rattle.h263_types.specs.Params.{IsParams, default_params, ranges, range_verdict}
 use Rattle.h263_types.specs.declared.format.Format.TheVariants.{Qcif}
 use Rattle.h263_types.specs.declared.params.Params.{Params}
 use Rattle.h263_types.specs.declared.params.ParamFault.{ParamFault}
-use Rattle.command_words.specs.Simple.{Text, Options, taken, value}
-use Rattle.command_words.specs.Values.{byte_in, clock_in, format_in, number_in, value_or}
+use Rattle.h263_types.specs.Texts.{Text}
+use Rattle.command_words.specs.Simple.{Options, taken, value}
+use Rattle.command_words.specs.Values.{byte_in, clock_in, format_worded, number_in, value_or}
 use Rattle.command_words.specs.declared.command.Command.{Command}
 use Rattle.command_words.specs.declared.command.Command.TheVariants.{Call, Send, Recv, Demo, Rate, Audit, Duplex, Group}
 
@@ -20,8 +21,8 @@ Lookup = Text → Option Text
 
 -- ---- parameters
 
-abbrev pub with_format : Lookup → Option Params
-with_format given = option_map default_params (value_or Qcif format_in (given (codes "format")))
+abbrev pub params_with_format : Lookup → Option Params
+params_with_format given = option_map default_params (value_or Qcif format_worded (given (codes "format")))
 
 abbrev pub with_quant : Lookup → Params → Option Params
 with_quant given p = option_map (λ n. let q : Params = record p { quant = n } in q)
@@ -61,7 +62,7 @@ where_ok (Err _) p = None
 
 -- where each is in its range
 abbrev pub in_range : Params → Option Params
-in_range p = where_ok (verdict_of (ranges p)) p
+in_range p = where_ok (range_verdict (ranges p)) p
 
 -- what the encoder is asked for
 abbrev pub coding_of : Lookup → Params → Option Params
@@ -76,7 +77,7 @@ timing_of given p = option_and_then (with_clock given)
 -- the parameters that the options give, each the default where its option isn't there
 abbrev pub params_of : Lookup → Option Params
 params_of given = option_and_then in_range
-    (option_and_then (timing_of given) (option_and_then (coding_of given) (with_format given)))
+    (option_and_then (timing_of given) (option_and_then (coding_of given) (params_with_format given)))
 
 -- ---- commands
 
@@ -92,8 +93,8 @@ pub record Row : Type 0 where
 abbrev pub taking_values : List Text → Options
 taking_values names = record { valued = names; switches = [] }
 
-abbrev pub call_of : Lookup → Option Command
-call_of given =
+abbrev pub call_given : Lookup → Option Command
+call_given given =
     option_map (λ params. Call params (is_some (given (codes "trace")))) (params_of given)
 
 abbrev pub call : Row
@@ -102,7 +103,7 @@ call = record {
   places = codes "in" ∷ codes "out" ∷ [];
   options = taking_values (codes "quant" ∷ codes "keep" ∷ codes "radius" ∷ codes "limit"
       ∷ codes "slots" ∷ codes "lead" ∷ codes "messages" ∷ codes "clock" ∷ codes "trace" ∷ []);
-  asks = call_of;
+  asks = call_given;
 }
 
 -- a target of a byte at least, and of six digits at most
@@ -241,12 +242,12 @@ group = record {
 }
 
 -- the commands
-abbrev pub rows : List Row
-rows = call ∷ send ∷ recv ∷ demo ∷ rate ∷ audit ∷ duplex ∷ group ∷ []
+abbrev pub command_rows : List Row
+command_rows = call ∷ send ∷ recv ∷ demo ∷ rate ∷ audit ∷ duplex ∷ group ∷ []
 
 -- the command with this first word
 abbrev pub row_named : Text → Option Row
-row_named first = find (λ row. bytes_eq row.word first) rows
+row_named first = find (λ row. bytes_eq row.word first) command_rows
 
 -- a command, and the value that its words give to each name
 pub record Asked : Type 0 where

@@ -8,7 +8,8 @@ use Rattle.clap.specs.declared.error.kind.ErrorKind.{ErrorKind}
 use Rattle.clap.specs.declared.error.kind.ErrorKind.TheVariants.{OutOfMemory as NoMemory}
 use Rattle.command_words.specs.declared.simple.WordStop.{WordStop}
 use Rattle.command_words.specs.declared.simple.WordStop.TheVariants.{OutOfMemory, Usage}
-use Rattle.command_words.specs.Simple.{Text, Given, value}
+use Rattle.h263_types.specs.Texts.{Text}
+use Rattle.command_words.specs.Simple.{Given, value}
 
 -- the texts behind references
 abbrev pub texts : List (Bor Text) → List Text

@@ -5,9 +5,7 @@ use Rattle.std.specs.Prelude.{ℕ, Bool, true, not, ◌&&◌, List, [], ◌∷�
 use Rattle.std.specs.List.{list_all, list_any}
 use Rattle.std.specs.Str.{bytes_eq, chars}
 use Rattle.clap.specs.Lexer.{long_of, short_of}
-
-abbrev pub Text : Type 0
-Text = List ℕ
+use Rattle.h263_types.specs.Texts.{Text}
 
 -- the name of a positional word or of an option, and the value that the words give it
 abbrev pub Given : Type 0
@@ -37,11 +35,11 @@ abbrev pub kind_after : Option (Text × Option Text) → Text → Kind
 kind_after (Some p) word = long p.0 p.1
 kind_after None word = if is_short word then short else plain
 
-abbrev pub kind_of : Text → Kind
-kind_of word = if bytes_eq word (45 ∷ 45 ∷ []) then dashes else kind_after (long_of word) word
+abbrev pub word_kind : Text → Kind
+word_kind word = if bytes_eq word (45 ∷ 45 ∷ []) then dashes else kind_after (long_of word) word
 
-abbrev pub is_among : List Text → Text → Bool
-is_among names name = list_any (λ n. bytes_eq n name) names
+abbrev pub is_name_among : List Text → Text → Bool
+is_name_among names name = list_any (λ n. bytes_eq n name) names
 
 abbrev pub with_given : Text → Text → Option (List Given) → Option (List Given)
 with_given name value = option_map (λ rest. (name, value) ∷ rest)
@@ -66,22 +64,22 @@ at_switch places name (Some value) rest = None
 at_switch places name None rest = with_given name [] (rest places None)
 
 -- each word is positional
-unfoldable pub placed : List Text → List Text → Option (List Given)
-placed places [] = Some []
-placed places (word ∷ words) = at_place places word (λ others waits. placed others words)
+unfoldable pub all_placed : List Text → List Text → Option (List Given)
+all_placed places [] = Some []
+all_placed places (word ∷ words) = at_place places word (λ others waits. all_placed others words)
 
-abbrev pub after_word : Options → (places : List Text)
+abbrev pub rest_after_word : Options → (places : List Text)
     → Option Text → Kind → Text → List Text → Rest → Option (List Given)
-after_word options places (Some name) plain word words rest =
+rest_after_word options places (Some name) plain word words rest =
     with_given name word (rest places None)
-after_word options places (Some name) _ word words rest = None
-after_word options places None plain word words rest = at_place places word rest
-after_word options places None dashes word words rest = placed places words
-after_word options places None (long name value) word words rest =
-    if is_among options.valued name then at_option places name value rest
-    else if is_among options.switches name then at_switch places name value rest
+rest_after_word options places (Some name) _ word words rest = None
+rest_after_word options places None plain word words rest = at_place places word rest
+rest_after_word options places None dashes word words rest = all_placed places words
+rest_after_word options places None (long name value) word words rest =
+    if is_name_among options.valued name then at_option places name value rest
+    else if is_name_among options.switches name then at_switch places name value rest
     else None
-after_word options places None short word words rest = None
+rest_after_word options places None short word words rest = None
 
 -- the values that the words give, in their order, where the positional words still to come have the
 -- names `places`
@@ -90,7 +88,7 @@ unfoldable pub named : Options → (places : List Text)
 named options places (Some name) [] = None
 named options places None [] = Some []
 named options places waits (word ∷ words) =
-    after_word options places waits (kind_of word) word words
+    rest_after_word options places waits (word_kind word) word words
     (λ others next. named options others next words)
 
 -- these values have one of this name
@@ -107,12 +105,12 @@ is_once [] = true
 is_once (g ∷ given) = not (list_any (λ other. bytes_eq g.0 other.0) given) && is_once given
 
 -- each positional word is there, and no option stands twice
-abbrev pub is_whole : List Text → List Given → Bool
-is_whole places given = is_once given && list_all (λ name. gives name given) places
+abbrev pub are_words_whole : List Text → List Given → Bool
+are_words_whole places given = is_once given && list_all (λ name. gives name given) places
 
 abbrev pub whole_or_none : List Text → Option (List Given) → Option (List Given)
 whole_or_none places None = None
-whole_or_none places (Some given) = if is_whole places given then Some given else None
+whole_or_none places (Some given) = if are_words_whole places given then Some given else None
 
 -- what the words give, where a simple command with these positional words and options takes them
 abbrev pub taken : (places : List Text) → Options → (words : List Text) → Option (List Given)

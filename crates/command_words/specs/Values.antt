@@ -8,7 +8,7 @@ use Rattle.h263_types.specs.declared.clock.Clock.{Clock}
 use Rattle.h263_types.specs.declared.clock.Clock.TheVariants.{Standard, Custom}
 use Rattle.h263_types.specs.declared.format.Format.{Format}
 use Rattle.h263_types.specs.declared.format.Format.TheVariants.{SubQcif, Qcif, Cif}
-use Rattle.command_words.specs.Simple.{Text}
+use Rattle.h263_types.specs.Texts.{Text}
 
 -- one to `most` ASCII digits
 abbrev pub is_number : ℕ → Text → Bool
@@ -27,8 +27,8 @@ in_byte n = if nat_lt n 256 then Some n else None
 abbrev pub byte_in : Text → Option ℕ
 byte_in text = option_and_then in_byte (number_in 6 text)
 
-abbrev pub format_in : Text → Option Format
-format_in text =
+abbrev pub format_worded : Text → Option Format
+format_worded text =
     if bytes_eq text (codes "sub-qcif") then Some SubQcif
     else (if bytes_eq text (codes "qcif") then Some Qcif
     else (if bytes_eq text (codes "cif") then Some Cif

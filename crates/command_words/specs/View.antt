@@ -9,12 +9,12 @@ abbrev pub asked_of : Words → Asked
 asked_of w = record { command = w.command; given = first_value (found_of w.given) }
 
 -- the row of a form
-abbrev pub row_of : Form → Row
-row_of Call = call
-row_of Send = send
-row_of Recv = recv
-row_of Demo = demo
-row_of Rate = rate
-row_of Audit = audit
-row_of Duplex = duplex
-row_of Group = group
+abbrev pub form_row : Form → Row
+form_row Call = call
+form_row Send = send
+form_row Recv = recv
+form_row Demo = demo
+form_row Rate = rate
+form_row Audit = audit
+form_row Duplex = duplex
+form_row Group = group

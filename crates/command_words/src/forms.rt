@@ -3,7 +3,7 @@
 ghost use Rattle.std.specs.Prelude.{◌≡◌, ◌≤◌, length, option_map};
 ghost use Rattle.command_words.specs.Asked.{row_named};
 ghost use Rattle.command_words.specs.Clap.{texts};
-ghost use Rattle.command_words.specs.View.{row_of};
+ghost use Rattle.command_words.specs.View.{form_row};
 
 #[derive(Clone, Copy)]
 pub(crate) enum Form {
@@ -61,7 +61,7 @@ static NO_SWITCHES: [&str; 0] = [];
 impl Form {
     // The form of the command with this first word.
     pub(crate) fn named(first: &str) -> Option<Form>
-        ensures { option_map row_of result ≡ row_named first.now }
+        ensures { option_map form_row result ≡ row_named first.now }
     {
         match first {
             "call" => Some(Form::Call),
@@ -77,7 +77,7 @@ impl Form {
     }
 
     pub(crate) fn places(self) -> &'static [&'static str]
-        ensures value { texts result.now ≡ (row_of self).places }
+        ensures value { texts result.now ≡ (form_row self).places }
         ensures few { length result.now ≤ 16 }
     {
         match self {
@@ -92,7 +92,7 @@ impl Form {
     }
 
     pub(crate) fn options(self) -> &'static [&'static str]
-        ensures { texts result.now ≡ (row_of self).options.valued }
+        ensures { texts result.now ≡ (form_row self).options.valued }
     {
         match self {
             Form::Call | Form::Duplex => CALL_OPTIONS.as_slice(),
@@ -106,7 +106,7 @@ impl Form {
     }
 
     pub(crate) fn switches(self) -> &'static [&'static str]
-        ensures { texts result.now ≡ (row_of self).options.switches }
+        ensures { texts result.now ≡ (form_row self).options.switches }
     {
         match self {
             Form::Recv => RECV_SWITCHES.as_slice(),

@@ -4,7 +4,7 @@ ghost use Rattle.std.specs.Prelude.{drop, length, true};
 ghost use Rattle.clap.specs.Words.{app_of, first_value, found_of, kind_of};
 ghost use Rattle.clap.specs.declared.error.ErrorKind.TheVariants.{OutOfMemory as NoMemory};
 ghost use Rattle.command_words.specs.Simple.{taken};
-ghost use Rattle.command_words.specs.View.{row_of};
+ghost use Rattle.command_words.specs.View.{form_row};
 ghost use Rattle.command_words.specs.Clap.{texts, with_rules, place_rule, option_rule, switch_rule};
 ghost use Rattle.command_words.specs.Clap.{Finds};
 
@@ -100,9 +100,9 @@ pub(crate) fn parse<'a>(
     words: &'a [&'a str],
 ) -> Result<ArgMatches<'a>, WordStop>
     ensures { MatchResult result
-        (λ m. Finds m (taken (row_of form).places (row_of form).options (drop 1 (texts words.now))))
+        (λ m. Finds m (taken (form_row form).places (form_row form).options (drop 1 (texts words.now))))
         (λ stop. stop ≡ WordStop.Usage
-        → taken (row_of form).places (row_of form).options (drop 1 (texts words.now)) ≡ None) }
+        → taken (form_row form).places (form_row form).options (drop 1 (texts words.now)) ≡ None) }
 {
     let command = Command::new(alloc, "h263rps").disable_help_flag(true);
     let command = with_places(alloc, command, form.places())?;

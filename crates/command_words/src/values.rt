@@ -2,7 +2,7 @@
 ghost use Rattle.std.specs.Prelude.{◌≡◌, ◌≤◌, ◌<◌, ◌^◌, IfSome, option_map};
 ghost use Rattle.std.specs.Char.{is_ascii_digit};
 ghost use Rattle.std.specs.List.{list_all};
-ghost use Rattle.command_words.specs.Values.{is_number, number_in, byte_in, format_in, clock_in};
+ghost use Rattle.command_words.specs.Values.{is_number, number_in, byte_in, format_worded, clock_in};
 ghost use Rattle.command_words.specs.Values.{value_or};
 
 use h263_types::{Clock, Format};
@@ -66,7 +66,7 @@ pub(crate) fn byte_or(text: Option<&str>, default: u8) -> Option<u8>
 
 // An option's format, or QCIF where the option isn't there.
 pub(crate) fn format_or(text: Option<&str>, default: Format) -> Option<Format>
-    ensures { result ≡ value_or default format_in (option_map (λ t. t.now) text.entry) }
+    ensures { result ≡ value_or default format_worded (option_map (λ t. t.now) text.entry) }
 {
     match text {
         None => Some(default),

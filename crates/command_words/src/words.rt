@@ -3,13 +3,13 @@ ghost use Rattle.std.specs.Prelude.{◌≡◌, ◌≤◌, IfOk, IfSome, MatchOpt
 ghost use Rattle.std.specs.Prelude.{drop, is_some, option_map, codes};
 ghost use Rattle.h263_types.specs.Params.{IsParams};
 ghost use Rattle.clap.specs.Words.{first_value, found_of};
-ghost use Rattle.command_words.specs.Asked.{asked, asked_by, call_of, send_of, recv_of, demo_of};
+ghost use Rattle.command_words.specs.Asked.{asked, asked_by, call_given, send_of, recv_of, demo_of};
 ghost use Rattle.command_words.specs.Asked.{rate_of, audit_of, duplex_of, group_of, receivers_in};
 ghost use Rattle.command_words.specs.Asked.{params_of, coding_of, timing_of, word_for, IsCommand};
 ghost use Rattle.command_words.specs.Asked.{seed_in, frames_in, target_in, target_or_none};
 ghost use Rattle.command_words.specs.Asked.{bucket_in};
 ghost use Rattle.command_words.specs.Clap.{texts};
-ghost use Rattle.command_words.specs.View.{asked_of, row_of};
+ghost use Rattle.command_words.specs.View.{asked_of, form_row};
 
 use crate::command::Command;
 use crate::forms::Form;
@@ -65,7 +65,7 @@ fn params(given: &ArgMatches<'_>) -> Option<Params>
 }
 
 fn call(given: &ArgMatches<'_>) -> Option<Command>
-    ensures value { result ≡ call_of (first_value (found_of given.now)) }
+    ensures value { result ≡ call_given (first_value (found_of given.now)) }
     ensures ready { IfSome result IsCommand }
 {
     let params = params(given)?;
@@ -228,7 +228,7 @@ fn group(given: &ArgMatches<'_>) -> Option<Command>
 
 // What the values of a command's words ask for.
 fn command_of(form: Form, given: &ArgMatches<'_>) -> Option<Command>
-    ensures value { result ≡ (row_of form).asks (first_value (found_of given.now)) }
+    ensures value { result ≡ (form_row form).asks (first_value (found_of given.now)) }
     ensures ready { IfSome result IsCommand }
 {
     match form {
@@ -246,7 +246,7 @@ fn command_of(form: Form, given: &ArgMatches<'_>) -> Option<Command>
 // The form that the first word names.
 fn form_of(words: &[&str]) -> Option<Form>
     ensures { MatchOption result (asked (texts words.now) ≡ None)
-        (λ form. asked (texts words.now) ≡ asked_by (row_of form) (drop 1 (texts words.now))) }
+        (λ form. asked (texts words.now) ≡ asked_by (form_row form) (drop 1 (texts words.now))) }
 {
     Form::named(words.first()?)
 }

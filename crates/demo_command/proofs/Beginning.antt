@@ -23,7 +23,7 @@ use Rattle.demo_command.proofs.Lines.{made_in_place, made_lines_few}
 pub ready_first : (m : Demo) → WayLaws m.terms.params → IsParams m.terms.params
     → IsNewNetwork m.terms.params (clocks.period_of m.terms.params.clock) m.network
     → length m.frame.items ≡ size_of_picture m.terms.params.format → m.both.sender.params ≡ m.terms.params
-    → sender_end.Stands (steady m.terms.params) m.both.sender [] → m.both.sender.pace.quant ≡ m.terms.params.quant
+    → sender_end.PacedStands (steady m.terms.params) m.both.sender [] → m.both.sender.pace.quant ≡ m.terms.params.quant
     → m.both.sender.sent ≡ 0 → m.both.receiver.played ≡ 0 → LineReady m
 ready_first m laws in_range new frame sender_params sends quant sent played =
     let way = new.way_is in

@@ -5,7 +5,7 @@ use Rattle.h263_types.specs.declared.blocks.Mb.{Mb}
 use Rattle.h263_types.specs.declared.params.Params.{Params}
 use Rattle.h263_planes.specs.Picture.{Picture}
 use Rattle.loss_trace.specs.declared.event.Event.{Event as Line}
-use Rattle.make_input.specs.Expanded.{onto}
+use Rattle.make_input.specs.Expanded.{events_onto}
 use Rattle.call_model.specs.Coding.{pictures_of}
 use Rattle.call_model.specs.IdealCall.{Event, Deliver, encoded, slices_at}
 use Rattle.call_model.specs.JoinedRun.{Joined}
@@ -41,14 +41,15 @@ as_line t past line event P is so =
 
 -- all packets of a picture, in their order
 delivered_from : (n from count : ℕ) (past : List Event)
-    → onto (map (Deliver n) (range_with_len from count)) (delivered n from ++ past) ≡ delivered n (from + count) ++ past
+    → events_onto (map (Deliver n) (range_with_len from count)) (delivered n from ++ past) ≡ delivered n (from + count)
+    ++ past
 delivered_from n from zero past =
     let same : from ≡ from + 0 = omega arith in
     ap (λ (k : ℕ). delivered n k ++ past) same
 delivered_from n from (suc count) past =
     let next : suc from ≡ from + 1 = omega arith in
     let same : (from + 1) + count ≡ from + suc count = omega arith in
-    ap (λ (k : ℕ). onto (map (Deliver n) (range_with_len (from + 1) count)) (delivered n k ++ past)) next
+    ap (λ (k : ℕ). events_onto (map (Deliver n) (range_with_len (from + 1) count)) (delivered n k ++ past)) next
     ∙ delivered_from n (from + 1) count past
     ∙ ap (λ (k : ℕ). delivered n k ++ past) same
 
@@ -116,21 +117,22 @@ module _ (t : DemoTerms) (made : MadeLaws t) (past : List Event) (same : ShowThe
   count_is = ap (λ (seen : Seen). length (slices_at seen.coded n)) same
 
   -- the first of them is near
-  first_near : (k : ℕ) → 0 < k → IsNearNow t (onto (map (Deliver n) (range_with_len 0 k)) past)
+  first_near : (k : ℕ) → 0 < k → IsNearNow t (events_onto (map (Deliver n) (range_with_len 0 k)) past)
       → IsNearNow t (Deliver n 0 ∷ past)
   first_near zero none near = absurd (omega (arith, none))
   first_near (suc k) more near =
       near_onto (pictures_of (coding p)) (rules_of p) (encoded (coding p) (rules_of p) (steady p) (made_video t))
       (length (made_video t)) (map (Deliver n) (range_with_len 1 k)) (Deliver n 0 ∷ past) near
 
-  pub near_first : n < length both.sender.coded → IsNearNow t (onto (map (Deliver n) (range_with_len 0 count)) past)
+  pub near_first : n < length both.sender.coded
+      → IsNearNow t (events_onto (map (Deliver n) (range_with_len 0 count)) past)
       → IsNearNow t (Deliver n 0 ∷ past)
   near_first sent near = first_near count
       (made.slices past n (subst (λ (seen : Seen). n < length seen.coded) same sent)) near
 
   -- and they are those of the line
   pub all_are : delivered n (length (slices_at both.sender.coded n)) ++ past
-      ≡ onto (map (Deliver n) (range_with_len 0 count)) past
+      ≡ events_onto (map (Deliver n) (range_with_len 0 count)) past
   all_are =
       let from_none : 0 + count ≡ count = omega arith in
       ap (λ (k : ℕ). delivered n k ++ past) count_is

@@ -3,7 +3,7 @@ use Rattle.std.proofs.Common.{◌≡◌, ℕ, zero, suc, ◌+◌, ◌-◌, ◌*�
 use Rattle.std.specs.Prelude.{◌==◌, if◌then◌else◌, nat_lt}
 use Rattle.loss_trace.specs.declared.event.Event.{Event as Line}
 use Rattle.loss_trace.specs.declared.event.Event.TheVariants as says
-use Rattle.make_input.specs.Trace.{after_plays, deliveries, draw, frames_from, last_line, made_trace, next_state, plays}
+use Rattle.make_input.specs.Trace.{after_plays, deliveries, draw, frames_from, last_play, made_trace, next_state, plays}
 use Rattle.demo_command.specs.Machine.{AreInPlace}
 
 -- ---- which pictures they name
@@ -58,7 +58,7 @@ last_in_place true sent = tt
 last_in_place false sent = tt
 
 pub made_in_place : (seed frames : ℕ) → frames ≤ 10000 → AreInPlace 10000 0 (made_trace seed frames)
-made_in_place seed frames few = of_frames frames 0 seed (last_line frames) (omega (arith, few))
+made_in_place seed frames few = of_frames frames 0 seed (last_play frames) (omega (arith, few))
     (last_in_place (nat_lt 0 frames) (0 + frames))
 
 -- ---- how many there are
@@ -109,7 +109,7 @@ pub made_lines_few : (seed frames : ℕ) → length (made_trace seed frames) ≤
 made_lines_few seed frames =
     omega (
       arith,
-      two_lengths (frames_from frames 0 seed) (last_line frames),
+      two_lengths (frames_from frames 0 seed) (last_play frames),
       few_frames frames 0 seed,
       few_last (nat_lt 0 frames),
     )

@@ -11,7 +11,7 @@ use Rattle.h263_types.specs.declared.clock.Clock.TheVariants.{Standard, Custom}
 use Rattle.h263_types.specs.declared.params.Params.{Params}
 use Rattle.h263_types.specs.Params.{IsParams}
 use Rattle.loss_trace.specs.declared.event.Event.{Event as Line}
-use Rattle.make_input.specs.Expanded.{expanded, line_events, onto}
+use Rattle.make_input.specs.Expanded.{expanded, expanded_events, events_onto}
 use Rattle.call_model.specs.Coding.{Pictures, Rules, pictures_of}
 use Rattle.call_model.specs.CodedPictures.{Coded}
 use Rattle.call_model.specs.IdealCall.{AllMayHappen, AllMayHappenFrom, Event, Send, Deliver, Play, Back, Source, call_from, encoded, slices_at}
@@ -63,7 +63,7 @@ module _ {Style Mb Picture : Type 0} (pictures : Pictures Style Mb Picture) (rul
   abbrev Near : List Event → Type 0
   Near past = AllMayHappenFrom pictures rules source left past
 
-  pub near_onto : (events past : List Event) → Near (onto events past) → Near past
+  pub near_onto : (events past : List Event) → Near (events_onto events past) → Near past
   near_onto [] past near = near
   near_onto (e ∷ events) past near = (near_onto events (e ∷ past) near).1
 
@@ -72,8 +72,8 @@ module _ {Style Mb Picture : Type 0} (pictures : Pictures Style Mb Picture) (rul
   unfolding expanded
   near_before [] past near = near
   near_before (l ∷ lines) past near =
-      let events = line_events (call_from pictures rules source past) l in
-      near_onto events past (near_before lines (onto events past) near)
+      let events = expanded_events (call_from pictures rules source past) l in
+      near_onto events past (near_before lines (events_onto events past) near)
 
 module _ (t : DemoTerms) where
   abbrev p : Params

@@ -2,7 +2,7 @@
 use Rattle.std.proofs.Common.{◌≡◌, ℕ, List, [], ◌∷◌, ◌++◌, length, refl, ap}
 use Rattle.h263_outside.specs.declared.desk.Role.{Role}
 use Rattle.loss_trace.specs.declared.event.Event.{Event as Line}
-use Rattle.desk_program.specs.Run.{End, Run, left_after, run_from, run_of, texts_of}
+use Rattle.desk_program.specs.Run.{End, Run, left_after, run_from, machine_run, texts_of}
 use Rattle.desk_program.specs.Texts.{no_bytes}
 use Rattle.make_input.specs.Expanded.{expanded}
 use Rattle.make_input.specs.Trace.{made_trace}
@@ -20,8 +20,8 @@ record IsSilent (t : DemoTerms) (past : List Event) (run : Run) : Type 0 where
   texts : (r : Role) → texts_of run.turns r ≡ []
 
 silent : (t : DemoTerms) (lines : List Line) (past : List Event) (inputs : Role → List ℕ)
-    → IsSilent t (made_events t past lines) (run_of demo_step (length lines) (state_at t past lines) inputs)
-unfolding run_of expanded
+    → IsSilent t (made_events t past lines) (machine_run demo_step (length lines) (state_at t past lines) inputs)
+unfolding machine_run expanded
 silent t [] past inputs = record { last = refl; texts = λ r. refl }
 silent t (line ∷ lines) past inputs =
     let rest = silent t lines (with_made_line t past line) (left_after inputs no_bytes) in

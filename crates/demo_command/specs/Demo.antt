@@ -12,7 +12,7 @@ use Rattle.call_report.specs.declared.status.Status.TheVariants.{Ok as Fine}
 use Rattle.desk_program.specs.Run.{Turn, End, Step}
 use Rattle.desk_program.specs.Run.Step.{Goes, Ends}
 use Rattle.desk_program.specs.Texts.{no_bytes, no_texts, on}
-use Rattle.make_input.specs.Expanded.{expanded, line_events, onto}
+use Rattle.make_input.specs.Expanded.{expanded, expanded_events, events_onto}
 use Rattle.make_input.specs.Frames.{made_sample}
 use Rattle.make_input.specs.Trace.{made_trace}
 use Rattle.call_model.specs.Coding.{pictures_of}
@@ -42,7 +42,7 @@ made_call t past = ideal (coding t.params) (rules_of t.params) (steady t.params)
 
 -- the events after those of a line, the newest first
 abbrev pub with_made_line : DemoTerms → List Event → Line → List Event
-with_made_line t past line = onto (line_events (made_call t past) line) past
+with_made_line t past line = events_onto (expanded_events (made_call t past) line) past
 
 -- the events of all these lines after others, the newest first
 abbrev pub made_events : DemoTerms → List Event → List Line → List Event

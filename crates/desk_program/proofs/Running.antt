@@ -9,7 +9,7 @@ use Rattle.call_report.specs.declared.status.Status.{Status}
 use Rattle.call_report.specs.declared.status.Status.TheVariants.{Ok as Fine}
 use Rattle.call_report.specs.Status.{Phase, phase}
 use Rattle.call_report.specs.Status.Phase.{finished, refused, unread, unwritten, starved, unasked, unopened}
-use Rattle.desk_program.specs.Run.{Turn, End, Step, Run, run_of, run_from, end_state, follow_state, follow, silence, left_after, texts_of, text_of, taken_of, IsWholeTurn}
+use Rattle.desk_program.specs.Run.{Turn, End, Step, Run, machine_run, run_from, end_state, follow_state, follow, silence, left_after, texts_of, text_of, taken_of, IsWholeTurn}
 use Rattle.desk_program.specs.Run.Step.{Goes, Ends}
 use Rattle.desk_program.specs.Ends.{Tells, Gains, GainsFronts, IsPart, KeepsRoles, Went, Ended, Lost, TurnGives, GivesUp, step_texts, step_turns, IsExactly, IsCutIn, IsSoFar, IsWholeOnly, next_texts, EndedIn, HasEnded, silent, Falls, OnGoing, OnEnd, OnceSettled, OnSettled, ComesAtStart, ComesAtStop, ComesLater, ReadOutIn}
 use Rattle.desk_program.specs.UnderWay.{IsUnderWay, EndsIn, LeftIn}
@@ -35,23 +35,23 @@ whole-append a t all is = All-append IsWholeTurn a (t ∷ []) all (All-cons IsWh
 pub after_step : {State : Type 0} → (State → (Role → List ℕ) → Step State) → ℕ → (Role → List ℕ) → State → (Role → ℕ)
     → Run
 after_step step zero inputs next taken = silence
-after_step step (suc n) inputs next taken = run_of step n next (left_after inputs taken)
+after_step step (suc n) inputs next taken = machine_run step n next (left_after inputs taken)
 
 pub run_is : {State : Type 0} (step : State → (Role → List ℕ) → Step State) (n : ℕ) (s : State) (inputs : Role → List ℕ)
-    → run_of step n s inputs ≡ follow (step s inputs) (after_step step n inputs)
-unfolding run_of after_step
+    → machine_run step n s inputs ≡ follow (step s inputs) (after_step step n inputs)
+unfolding machine_run after_step
 run_is step zero s inputs = refl
 run_is step (suc n) s inputs = refl
 
 run_goes : {State : Type 0} (step : State → (Role → List ℕ) → Step State) (n : ℕ) (s : State) (inputs : Role
     → List ℕ) (next : State) (t : Turn) → step s inputs ≡ Goes next t
-    → run_of step (suc n) s inputs ≡ record {
-      turns = t ∷ (run_of step n next (left_after inputs t.taken)).turns;
-      last = (run_of step n next (left_after inputs t.taken)).last;
+    → machine_run step (suc n) s inputs ≡ record {
+      turns = t ∷ (machine_run step n next (left_after inputs t.taken)).turns;
+      last = (machine_run step n next (left_after inputs t.taken)).last;
     }
-unfolding run_of
+unfolding machine_run
 run_goes {State} step n s inputs next t is =
-    ap (λ (x : Step State). follow x (λ next taken. run_of step n next (left_after inputs taken))) is
+    ap (λ (x : Step State). follow x (λ next taken. machine_run step n next (left_after inputs taken))) is
 
 -- where these bytes don't hold the first turn of a step, they don't hold the first of the run
 part_follow : {State : Type 0} (x : Step State) (rest : State → (Role → ℕ) → Run) (k : Role → ℕ)
@@ -178,7 +178,8 @@ module _ {State : Type 0} (x : Step State) (cont : State → (Role → ℕ) → 
 -- before the first step nothing is done
 abbrev pub at_start : {State : Type 0} (first : Step State) (step : State → (Role → List ℕ)
     → Step State) (most : ℕ) (inputs : Role → List ℕ) (now : Outside)
-    → IsBefore first (λ next taken. run_of step most next (left_after inputs taken)) (run_from first step most inputs)
+    → IsBefore first (λ next taken. machine_run step most next (left_after inputs taken))
+    (run_from first step most inputs)
     inputs now.written true now
 at_start first step most inputs now = record {
   done = [];
@@ -196,15 +197,16 @@ pub started : {State : Type 0} (first : Step State) (step : State → (Role → 
     → IsUnderWay step reads (run_from first step most inputs) inputs old.written stands most new
 started {State} first step reads most inputs old new stands w =
     let p = at_start first step most inputs old in
-    let next = run_of step most w.next (left_after inputs w.turn.taken) in
+    let next = machine_run step most w.next (left_after inputs w.turn.taken) in
     record {
       done = w.turn ∷ [];
       state = w.next;
       rest = left_after inputs w.turn.taken;
       kept = w.kept;
       turns = more_turns _ _ _ _ _ _ old _ p w.turn next
-          (ap (λ (y : Step State). follow y (λ next taken. run_of step most next (left_after inputs taken))) w.is);
-      last = ap (λ (y : Step State). (follow y (λ next taken. run_of step most next (left_after inputs taken))).last)
+          (ap (λ (y : Step State). follow y (λ next taken. machine_run step most next (left_after inputs taken))) w.is);
+      last = ap (λ (y : Step State).
+          (follow y (λ next taken. machine_run step most next (left_after inputs taken))).last)
           (sym w.is);
       place = more_place _ _ _ _ _ _ old _ p w.turn;
       told = w.left;
@@ -234,9 +236,9 @@ module _ {State : Type 0} (step : State → (Role → List ℕ) → Step State) 
       → Went (step p.state p.rest) after reads (reads p.state) p.rest old new
       → IsUnderWay step reads run inputs start after fewer new
   goes_on after fewer less w =
-      let next = run_of step fewer w.next (left_after p.rest w.turn.taken) in
-      let is : run_of step more p.state p.rest ≡ record { turns = w.turn ∷ next.turns; last = next.last } =
-      ap (λ (n : ℕ). run_of step n p.state p.rest) (sym less ∙ add-one fewer)
+      let next = machine_run step fewer w.next (left_after p.rest w.turn.taken) in
+      let is : machine_run step more p.state p.rest ≡ record { turns = w.turn ∷ next.turns; last = next.last } =
+      ap (λ (n : ℕ). machine_run step n p.state p.rest) (sym less ∙ add-one fewer)
       ∙ run_goes step fewer p.state p.rest w.next w.turn w.is in
       let b = before_step in
       record {

@@ -24,9 +24,9 @@ abbrev pub GainsFronts : (Role → List ℕ) → (Role → Option (List ℕ)) �
 GainsFronts texts old new = (r : Role) → Front (texts r) (old r) (new r)
 
 -- this many bytes of an input are gone, where the number is said
-abbrev pub IsTaken : Option ℕ → ℕ → Type 0
-IsTaken None n = Unit {0}
-IsTaken (Some k) n = k ≡ n
+abbrev pub IsGone : Option ℕ → ℕ → Type 0
+IsGone None n = Unit {0}
+IsGone (Some k) n = k ≡ n
 
 -- what is left after an end: where it says how much it takes, just that is gone
 abbrev pub LeavesBehind : (Role → Option ℕ) → (Role → List ℕ) → (Role → ℕ) → Outside → Type 0

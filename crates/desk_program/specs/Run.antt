@@ -43,9 +43,11 @@ follow (Goes next turn) rest =
 follow (Ends last) rest = record { turns = []; last = last }
 
 -- the run of a machine from a state, over what is left of each input, where this many turns may come before the end
-unfoldable pub run_of : {State : Type 0} → (State → (Role → List ℕ) → Step State) → ℕ → State → (Role → List ℕ) → Run
-run_of turn zero s inputs = follow (turn s inputs) (λ next taken. silence)
-run_of turn (suc n) s inputs = follow (turn s inputs) (λ next taken. run_of turn n next (left_after inputs taken))
+unfoldable pub machine_run : {State : Type 0} → (State → (Role → List ℕ) → Step State) → ℕ → State → (Role → List ℕ)
+    → Run
+machine_run turn zero s inputs = follow (turn s inputs) (λ next taken. silence)
+machine_run turn (suc n) s inputs = follow (turn s inputs) (λ next taken. machine_run turn n next
+    (left_after inputs taken))
 
 abbrev pub follow_state : {State : Type 0} → Step State → State → (State → (Role → ℕ) → State) → State
 follow_state (Goes next turn) s rest = rest next turn.taken
@@ -60,7 +62,7 @@ end_state turn (suc n) s inputs =
 
 -- the run of a command whose first step is this one
 abbrev pub run_from : {State : Type 0} → Step State → (State → (Role → List ℕ) → Step State) → ℕ → (Role → List ℕ) → Run
-run_from first turn most inputs = follow first (λ next taken. run_of turn most next (left_after inputs taken))
+run_from first turn most inputs = follow first (λ next taken. machine_run turn most next (left_after inputs taken))
 
 -- the text of some turns on one output
 abbrev pub texts_of : List Turn → Role → List ℕ

@@ -2,7 +2,7 @@
 use Rattle.std.specs.Prelude.{ℕ, ◌≡◌, Bool, true, List, ◌++◌, Option, All}
 use Rattle.h263_outside.specs.Desk.{Outside}
 use Rattle.h263_outside.specs.declared.desk.Role.{Role}
-use Rattle.desk_program.specs.Run.{Turn, Step, Run, run_of, end_state, left_after, texts_of, taken_of, IsWholeTurn}
+use Rattle.desk_program.specs.Run.{Turn, Step, Run, machine_run, end_state, left_after, texts_of, taken_of, IsWholeTurn}
 use Rattle.desk_program.specs.Ends.{Tells, Gains}
 
 -- some turns of the run are done, and the others are those of the state that the machine keeps in
@@ -14,8 +14,8 @@ pub record IsUnderWay {State : Type 0} (step : State → (Role → List ℕ) →
   pub state : State
   pub rest : Role → List ℕ
   pub kept : stands state rest
-  pub turns : done ++ (run_of step more state rest).turns ≡ run.turns
-  pub last : (run_of step more state rest).last ≡ run.last
+  pub turns : done ++ (machine_run step more state rest).turns ≡ run.turns
+  pub last : (machine_run step more state rest).last ≡ run.last
   pub place : rest ≡ left_after inputs (taken_of done)
   pub told : Tells now rest
   pub whole : reads state ≡ true → All IsWholeTurn done

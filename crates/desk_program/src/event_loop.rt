@@ -1,7 +1,7 @@
 //! The loop of every command: turns until one of them ends it.
 ghost use Rattle.std.specs.Prelude.{ℕ, List, Option};
 ghost use Rattle.h263_outside.specs.declared.desk.Role.{Role};
-ghost use Rattle.desk_program.specs.Run.{Run, run_of};
+ghost use Rattle.desk_program.specs.Run.{Run, machine_run};
 ghost use Rattle.desk_program.specs.Ends.{HasEnded, silent, HasCause, IsLater, IsNotStarved, IsReadOut, AfterAll, KeepsRoles};
 ghost use Rattle.desk_program.specs.UnderWay.{IsUnderWay, EndsIn, LeftIn};
 

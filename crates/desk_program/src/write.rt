@@ -5,7 +5,7 @@ ghost use Rattle.h263_outside.specs.declared.desk.Role.TheVariants.{Pictures, Wi
 ghost use Rattle.h263_planes.specs.Lent.{picture as lent};
 ghost use Rattle.y4m.specs.Text.{head_text, frame_text};
 ghost use Rattle.event_logs.specs.Text.{entry_text};
-ghost use Rattle.call_report.specs.View.{text_of};
+ghost use Rattle.call_report.specs.View.{line_text};
 ghost use Rattle.desk_program.specs.Ends.{Gains, GainsFronts};
 ghost use Rattle.desk_program.specs.Texts.{on};
 
@@ -96,9 +96,9 @@ pub fn put_entry<D: Desk>(desk: &mut D, letter: u8, bytes: &[u8]) -> Result<(), 
 pub fn put_line<D: Desk>(desk: &mut D, line: &Line) -> Result<(), Status>
     requires { (D.outside desk.old).attached Report ≡ true }
     ensures ok { OnOk result (Gains
-        (on Report (text_of line.now)) (D.outside desk.old).written (D.outside desk.new).written) }
+        (on Report (line_text line.now)) (D.outside desk.old).written (D.outside desk.new).written) }
     ensures err { OnErr result (GainsFronts
-        (on Report (text_of line.now)) (D.outside desk.old).written (D.outside desk.new).written) }
+        (on Report (line_text line.now)) (D.outside desk.old).written (D.outside desk.new).written) }
     ensures kind { IfErr result (λ status. status ≡ Status.WriteFault) }
     ensures cause { OnErr result
         (Rose (D.outside desk.old).faults.write (D.outside desk.new).faults.write) }

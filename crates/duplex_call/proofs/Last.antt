@@ -1,7 +1,7 @@
 -- The last four of a list with one more.
 use Rattle.std.proofs.Common.{◌≡◌, ℕ, ◌+◌, ◌-◌, refl, ap, ◌∙◌, arith, List, [], ◌∷◌, ◌++◌, length, length-append, Option, Some, None}
 use Rattle.std.specs.Prelude.{drop, zero, suc, is_some, true, false, slice_index_or}
-use Rattle.duplex_call.specs.Waiting.{last_four, placed}
+use Rattle.duplex_call.specs.Waiting.{last_four, in_four_places}
 
 -- with one more, in places: the first that is free, or the last, where all go one down
 abbrev pub placed_more : {X : Type 0} → List X → X → List (Option X)
@@ -13,7 +13,7 @@ placed_more (a ∷ b ∷ c ∷ d ∷ more) x = Some b ∷ Some c ∷ Some d ∷ 
 
 module _ {X : Type 0} where
   -- behind k elements there are four: with one more there are four behind k + 1
-  four : (k : ℕ) (xs : List X) (x : X) → length xs ≡ k + 4 → placed (drop (k + 1) (xs ++ x ∷ []))
+  four : (k : ℕ) (xs : List X) (x : X) → length xs ≡ k + 4 → in_four_places (drop (k + 1) (xs ++ x ∷ []))
       ≡ placed_more (drop k xs) x
   four zero [] x long = absurd (omega (arith, long))
   four zero (a ∷ []) x long = absurd (omega (arith, long))
@@ -27,7 +27,7 @@ module _ {X : Type 0} where
       suc_more : (k : ℕ) → suc k + 1 ≡ suc (k + 1)
       suc_more k = omega arith
 
-  pub last_more : (xs : List X) (x : X) → placed (last_four (xs ++ x ∷ [])) ≡ placed_more (last_four xs) x
+  pub last_more : (xs : List X) (x : X) → in_four_places (last_four (xs ++ x ∷ [])) ≡ placed_more (last_four xs) x
   last_more [] x = refl
   last_more (a ∷ []) x = refl
   last_more (a ∷ b ∷ []) x = refl
@@ -35,10 +35,10 @@ module _ {X : Type 0} where
   last_more (a ∷ b ∷ c ∷ d ∷ rest) x =
       let xs : List X = a ∷ b ∷ c ∷ d ∷ rest in
       let now : length (xs ++ x ∷ []) - 4 ≡ (length xs - 4) + 1 = omega (arith, length-append xs (x ∷ [])) in
-      ap (λ (k : ℕ). placed (drop k (xs ++ x ∷ []))) now ∙ four (length xs - 4) xs x (omega arith)
+      ap (λ (k : ℕ). in_four_places (drop k (xs ++ x ∷ []))) now ∙ four (length xs - 4) xs x (omega arith)
 
   -- the first place that is free takes it
-  pub free_0 : (m : List X) (x : X) → is_some (slice_index_or (placed m) 0 None) ≡ false
+  pub free_0 : (m : List X) (x : X) → is_some (slice_index_or (in_four_places m) 0 None) ≡ false
       → Some x ∷ None ∷ None ∷ None ∷ [] ≡ placed_more m x
   free_0 [] x free = refl
   free_0 (a ∷ []) x free = cc
@@ -46,27 +46,29 @@ module _ {X : Type 0} where
   free_0 (a ∷ b ∷ c ∷ []) x free = cc
   free_0 (a ∷ b ∷ c ∷ d ∷ more) x free = cc
 
-  pub free_1 : (m : List X) (x : X) → is_some (slice_index_or (placed m) 0 None) ≡ true
-      → is_some (slice_index_or (placed m) 1 None) ≡ false
-      → slice_index_or (placed m) 0 None ∷ Some x ∷ None ∷ None ∷ [] ≡ placed_more m x
+  pub free_1 : (m : List X) (x : X) → is_some (slice_index_or (in_four_places m) 0 None) ≡ true
+      → is_some (slice_index_or (in_four_places m) 1 None) ≡ false
+      → slice_index_or (in_four_places m) 0 None ∷ Some x ∷ None ∷ None ∷ [] ≡ placed_more m x
   free_1 [] x taken free = cc
   free_1 (a ∷ []) x taken free = refl
   free_1 (a ∷ b ∷ []) x taken free = cc
   free_1 (a ∷ b ∷ c ∷ []) x taken free = cc
   free_1 (a ∷ b ∷ c ∷ d ∷ more) x taken free = cc
 
-  pub free_2 : (m : List X) (x : X) → is_some (slice_index_or (placed m) 1 None) ≡ true
-      → is_some (slice_index_or (placed m) 2 None) ≡ false
-      → slice_index_or (placed m) 0 None ∷ slice_index_or (placed m) 1 None ∷ Some x ∷ None ∷ [] ≡ placed_more m x
+  pub free_2 : (m : List X) (x : X) → is_some (slice_index_or (in_four_places m) 1 None) ≡ true
+      → is_some (slice_index_or (in_four_places m) 2 None) ≡ false
+      → slice_index_or (in_four_places m) 0 None ∷ slice_index_or (in_four_places m) 1 None ∷ Some x ∷ None ∷ []
+      ≡ placed_more m x
   free_2 [] x taken free = cc
   free_2 (a ∷ []) x taken free = cc
   free_2 (a ∷ b ∷ []) x taken free = refl
   free_2 (a ∷ b ∷ c ∷ []) x taken free = cc
   free_2 (a ∷ b ∷ c ∷ d ∷ more) x taken free = cc
 
-  pub free_3 : (m : List X) (x : X) → is_some (slice_index_or (placed m) 2 None) ≡ true
-      → is_some (slice_index_or (placed m) 3 None) ≡ false
-      → slice_index_or (placed m) 0 None ∷ slice_index_or (placed m) 1 None ∷ slice_index_or (placed m) 2 None ∷ Some
+  pub free_3 : (m : List X) (x : X) → is_some (slice_index_or (in_four_places m) 2 None) ≡ true
+      → is_some (slice_index_or (in_four_places m) 3 None) ≡ false
+      → slice_index_or (in_four_places m) 0 None ∷ slice_index_or (in_four_places m) 1 None ∷ slice_index_or
+      (in_four_places m) 2 None ∷ Some
       x ∷ [] ≡ placed_more m x
   free_3 [] x taken free = cc
   free_3 (a ∷ []) x taken free = cc
@@ -74,8 +76,9 @@ module _ {X : Type 0} where
   free_3 (a ∷ b ∷ c ∷ []) x taken free = refl
   free_3 (a ∷ b ∷ c ∷ d ∷ more) x taken free = cc
 
-  pub full : (m : List X) (x : X) → is_some (slice_index_or (placed m) 3 None) ≡ true
-      → slice_index_or (placed m) 1 None ∷ slice_index_or (placed m) 2 None ∷ slice_index_or (placed m) 3 None ∷ Some
+  pub full : (m : List X) (x : X) → is_some (slice_index_or (in_four_places m) 3 None) ≡ true
+      → slice_index_or (in_four_places m) 1 None ∷ slice_index_or (in_four_places m) 2 None ∷ slice_index_or
+      (in_four_places m) 3 None ∷ Some
       x ∷ [] ≡ placed_more m x
   full [] x taken = cc
   full (a ∷ []) x taken = cc

@@ -6,13 +6,13 @@ use Rattle.call_model.specs.IdealCall.{Send, Deliver, Play, Back}
 use Rattle.call_model.specs.Refusals.{Refusal, NoneWhereItMayHappen}
 use Rattle.duplex_call.specs.declared.line.Party.{Party}
 use Rattle.duplex_call.specs.Duplex.{other, WayRun, way, WayCoding, call_of, MayBeBrought}
-use Rattle.duplex_call.specs.Refused.{first_of, own_refusal, heard_refusal, NoneWhereItMayHappenOf}
+use Rattle.duplex_call.specs.Refused.{earlier_refusal, own_refusal, heard_refusal, NoneWhereItMayHappenOf}
 
-neither : (a b : Option Refusal) → first_of a b ≡ None → (a ≡ None) × (b ≡ None)
+neither : (a b : Option Refusal) → earlier_refusal a b ≡ None → (a ≡ None) × (b ≡ None)
 neither None b is = (refl, is)
 neither (Some r) b is = cc
 
-both_none : (a b : Option Refusal) → a ≡ None → b ≡ None → first_of a b ≡ None
+both_none : (a b : Option Refusal) → a ≡ None → b ≡ None → earlier_refusal a b ≡ None
 both_none None b first second = second
 both_none (Some r) b first second = cc
 

@@ -77,15 +77,15 @@ module _ {Captured Frame Style Mb Picture Fault MessageFault : Type 0}
   call_of x w = ideal (side x).coding (side x).rules (side x).pace w.frames w.past
 
   -- what the receiver of the party's pictures said, as it travels
-  abbrev pub said_of : Party → WayRun Frame → List Message
-  said_of x w = map (travelling (side x).rules) (call_of x w).said
+  abbrev pub way_said : Party → WayRun Frame → List Message
+  way_said x w = map (travelling (side x).rules) (call_of x w).said
 
   -- this picture is captured and sent as the party's next one. Its header carries the last messages
   -- of the party's receiver
   abbrev pub with_capture : Party → Captured → WayRuns Frame → WayRuns Frame
   with_capture x captured ways =
       let own = way x ways in
-      let said = said_of (other x) (way (other x) ways) in
+      let said = way_said (other x) (way (other x) ways) in
       let numbers = numbers_carried own.loaded (length said) in
       with_way x (record {
         frames = own.frames ++ (side x).carrying captured (messages_at said numbers) ∷ [];

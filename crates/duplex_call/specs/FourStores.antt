@@ -23,8 +23,8 @@ module _ {Captured Frame Style Mb Picture Fault MessageFault : Type 0}
       (new_receiver (side x).coding (side x).rules) (side x).pace w.frames w.past
 
   -- the ends of a party's pictures do what the ideal call of its frames and events says
-  abbrev pub Follows : Party → WayRun Frame → Type 0
-  Follows x w = EndsFollow (side x).coding (side x).rules (call_of side x w) (ends_of x w)
+  abbrev pub PartyEndsFollow : Party → WayRun Frame → Type 0
+  PartyEndsFollow x w = EndsFollow (side x).coding (side x).rules (call_of side x w) (ends_of x w)
 
 -- the messages of the last four numbers since the load are the last four, at most, of those that were
 -- said since then

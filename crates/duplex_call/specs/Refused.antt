@@ -6,9 +6,9 @@ use Rattle.duplex_call.specs.declared.line.Party.{Party}
 use Rattle.duplex_call.specs.Duplex.{other, Lettered, WayRun, WayRuns, way, WayCoding, call_of, ways_after, MayHappenOf}
 
 -- the first refusal, if there is one
-abbrev pub first_of : Option Refusal → Option Refusal → Option Refusal
-first_of None second = second
-first_of (Some refusal) second = Some refusal
+abbrev pub earlier_refusal : Option Refusal → Option Refusal → Option Refusal
+earlier_refusal None second = second
+earlier_refusal (Some refusal) second = Some refusal
 
 module _ {Captured Frame Style Mb Picture Fault MessageFault : Type 0}
     (side : Party → WayCoding Captured Frame Style Mb Picture Fault MessageFault) where
@@ -19,14 +19,14 @@ module _ {Captured Frame Style Mb Picture Fault MessageFault : Type 0}
   -- the first of these messages that is refused: it is about a picture too far behind the capture
   abbrev pub heard_refusal : Party → WayRun Frame → List ℕ → Option Refusal
   heard_refusal x w [] = None
-  heard_refusal x w (k ∷ ks) = first_of (own_refusal 0 x w (Back k)) (heard_refusal x w ks)
+  heard_refusal x w (k ∷ ks) = earlier_refusal (own_refusal 0 x w (Back k)) (heard_refusal x w ks)
 
   -- The first refusal of an event. A packet is asked for its own distance before its picture's
   -- messages are, in their order.
   abbrev pub refusal_of : ℕ → Party → Event → WayRuns Frame → Option Refusal
   refusal_of left x Send ways = own_refusal left x (way x ways) Send
   refusal_of left x (Deliver n j) ways =
-      first_of (own_refusal left x (way x ways) (Deliver n j))
+      earlier_refusal (own_refusal left x (way x ways) (Deliver n j))
       (heard_refusal (other x) (way (other x) ways) (slice_index_or (way x ways).carried n []))
   refusal_of left x Play ways = own_refusal left x (way x ways) Play
   refusal_of left x (Back k) ways = Some NotSaid

@@ -4,7 +4,7 @@ use Rattle.call_model.specs.Coding.{Mark}
 use Rattle.call_model.specs.IdealCall.{Event, Send, Deliver, Play}
 use Rattle.call_model.specs.Refusals.{Refusal}
 use Rattle.call_model.specs.SmallCoding.{Two, SmallStyle, SmallMb, SmallFault, small}
-use Rattle.call_model.specs.Worked.{flat, marks, references, rules_of, steady}
+use Rattle.call_model.specs.Worked.{flat, marks, references, scene_rules, always_8}
 use Rattle.duplex_call.specs.declared.line.Party.{Party}
 use Rattle.duplex_call.specs.declared.line.Party.TheVariants.{A, B}
 use Rattle.duplex_call.specs.Duplex.{Lettered, WayCoding, WayRuns, way, call_of, ways_after}
@@ -14,26 +14,27 @@ use Rattle.duplex_call.specs.Refused.{passed, refusal_of}
 abbrev pub small_side : Party → WayCoding Two Two SmallStyle SmallMb Two SmallFault SmallFault
 small_side x = record {
   coding = small;
-  rules = rules_of 16 3;
-  pace = steady;
+  rules = scene_rules 16 3;
+  pace = always_8;
   carrying = λ captured messages. captured;
 }
 
 abbrev pub row_captures : Party → List Two
 row_captures x = flat 100 ∷ flat 100 ∷ []
 
-abbrev pub at : Party → Event → Lettered
-at x e = record { party = x; event = e }
+abbrev pub lettered_as : Party → Event → Lettered
+lettered_as x e = record { party = x; event = e }
 
 -- both packets of a picture are delivered
-abbrev pub whole : Party → ℕ → List Lettered
-whole x n = at x (Deliver n 0) ∷ at x (Deliver n 1) ∷ []
+abbrev pub both_packets : Party → ℕ → List Lettered
+both_packets x n = lettered_as x (Deliver n 0) ∷ lettered_as x (Deliver n 1) ∷ []
 
 -- a S / a D 0.* / b S / b D 0.* / a S / a D 1.* / a P / a P / b P
 abbrev pub row : List Lettered
 row =
-    at A Send ∷ whole A 0 ++ at B Send ∷ whole B 0 ++ at A Send ∷ whole A 1
-    ++ at A Play ∷ at A Play ∷ at B Play ∷ []
+    lettered_as A Send ∷ both_packets A 0 ++ lettered_as B Send ∷ both_packets B 0
+    ++ lettered_as A Send ∷ both_packets A 1
+    ++ lettered_as A Play ∷ lettered_as A Play ∷ lettered_as B Play ∷ []
 
 abbrev pub row_ways : WayRuns Two
 row_ways = ways_after small_side row_captures (reverse row)
@@ -60,24 +61,25 @@ abbrev pub captures_of : ℕ → Party → List Two
 captures_of count x = replicate count (flat 100)
 
 -- a's next picture is sent, lost, and played
-abbrev pub lost : List Lettered
-lost = at A Send ∷ at A Play ∷ []
+abbrev pub lost_picture : List Lettered
+lost_picture = lettered_as A Send ∷ lettered_as A Play ∷ []
 
 -- five pictures of a are told to be lost before b captures its first picture, and one more before its
 -- second
 abbrev pub five_row : List Lettered
-five_row = lost ++ lost ++ lost ++ lost ++ lost ++ at B Send ∷ lost ++ at B Send ∷ []
+five_row = lost_picture ++ lost_picture ++ lost_picture ++ lost_picture ++ lost_picture
+    ++ lettered_as B Send ∷ lost_picture ++ lettered_as B Send ∷ []
 
 abbrev pub five_ways : WayRuns Two
 five_ways = ways_after small_side (captures_of 6) (reverse five_row)
 
 -- a's picture n is sent, and both its packets are delivered
-abbrev pub seen : ℕ → List Lettered
-seen n = at A Send ∷ whole A n
+abbrev pub seen_picture : ℕ → List Lettered
+seen_picture n = lettered_as A Send ∷ both_packets A n
 
 -- a delivery at a place without a packet, after which a's first acknowledgement still waits
 abbrev pub no_packet_row : List Lettered
-no_packet_row = seen 0 ++ at B Send ∷ at B (Deliver 0 9) ∷ []
+no_packet_row = seen_picture 0 ++ lettered_as B Send ∷ lettered_as B (Deliver 0 9) ∷ []
 
 abbrev pub no_packet_ways : WayRuns Two
 no_packet_ways = ways_after small_side row_captures (reverse no_packet_row)
@@ -87,13 +89,13 @@ abbrev pub narrow_side : Party → WayCoding Two Two SmallStyle SmallMb Two Smal
 narrow_side x = record {
   coding = small;
   rules = record { slots = 16; lead = 3; half = 3; chain = 131; mbs = 2; flags = 0 };
-  pace = steady;
+  pace = always_8;
   carrying = λ captured messages. captured;
 }
 
 -- b's picture carries the acknowledgement of a's picture 0, and a has sent three pictures since it began
 abbrev pub far_row : List Lettered
-far_row = seen 0 ++ at B Send ∷ at A Send ∷ at A Send ∷ []
+far_row = seen_picture 0 ++ lettered_as B Send ∷ lettered_as A Send ∷ lettered_as A Send ∷ []
 
 abbrev pub far_refusal : ℕ → Option Refusal
 far_refusal place =

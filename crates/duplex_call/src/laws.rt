@@ -3,7 +3,7 @@ ghost use Rattle.std.specs.Prelude.{List};
 ghost use Rattle.call_model.specs.IdealCall.{AllMayHappen};
 ghost use Rattle.duplex_call.specs.declared.line.Party.{Party};
 ghost use Rattle.duplex_call.specs.Duplex.{AllMayHappenOf, Lettered, WayCoding, way, ways_after};
-ghost use Rattle.duplex_call.specs.FourStores.{Follows, IsWayCoding, LastFourAre};
+ghost use Rattle.duplex_call.specs.FourStores.{PartyEndsFollow, IsWayCoding, LastFourAre};
 ghost use Rattle.duplex_call.specs.Refused.{NoneWhereItMayHappenOf};
 
 use call_model::laws as call_model_laws;
@@ -14,7 +14,7 @@ pub fn four_stores<Captured, Frame, Style, Mb, Picture, Fault, MessageFault>()
     ensures { (side : Party → WayCoding Captured Frame Style Mb Picture Fault MessageFault)
         (captures : Party → List Captured) (past : List Lettered) → ((x : Party) → IsWayCoding (side x))
         → AllMayHappenOf side captures past
-        → (x : Party) → Follows side x (way x (ways_after side captures past)) }
+        → (x : Party) → PartyEndsFollow side x (way x (ways_after side captures past)) }
 {
     call_model_laws::later_frames::<Frame, Style, Mb, Picture, Fault, MessageFault>();
     call_model_laws::two_stores::<Frame, Style, Mb, Picture, Fault, MessageFault>();

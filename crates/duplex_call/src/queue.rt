@@ -17,7 +17,7 @@ pub struct Carrier {
 impl Carrier {
     ghost use Rattle.std.specs.Prelude.{◌≡◌, List, [], ◌∷◌, ◌++◌};
     ghost use Rattle.duplex_call.specs.declared.queue.Carried.{Carried};
-    ghost use Rattle.duplex_call.specs.Waiting.{in_places, Waits};
+    ghost use Rattle.duplex_call.specs.Waiting.{last_in_places, Waits};
 
     /// No message was said.
     pub fn new() -> Carrier
@@ -50,7 +50,7 @@ impl Carrier {
     /// The messages for the next picture header, the oldest first.
     pub fn load(&mut self) -> [Option<Carried>; 4]
         ensures places { (before : List Carried) → Waits self.old before
-            → result ≡ in_places before }
+            → result ≡ last_in_places before }
         ensures none { Waits self.new [] }
     {
         let waiting = self.waiting;

@@ -8,7 +8,8 @@ use Rattle.y4m.specs.Frame.{frame_size, next_frame}
 use Rattle.loss_trace.specs.declared.event.Event.{Event as Line}
 use Rattle.loss_trace.specs.declared.event.Event.TheVariants as says
 use Rattle.loss_trace.specs.declared.fault.TraceFault.TheVariants.{TooMany}
-use Rattle.loss_trace.specs.Lines.{NoNewline, first_line}
+use Rattle.h263_outside.specs.Lines.{NoNewline}
+use Rattle.loss_trace.specs.Lines.{first_line}
 use Rattle.call_report.specs.declared.status.Status.{Status}
 use Rattle.desk_program.specs.Run.{Step}
 use Rattle.desk_program.specs.Run.Step.{Ends}

@@ -8,7 +8,7 @@ use Rattle.y4m.specs.declared.fault.Y4mFault.{Y4mFault}
 use Rattle.y4m.specs.Frame.{next_frame, frame_size}
 use Rattle.y4m.specs.Head.{head_of, head_size}
 use Rattle.y4m.specs.Laws.{FrameLaws}
-use Rattle.y4m.specs.Video.{fault_of, fault_after_head, most_frames, video_fault}
+use Rattle.y4m.specs.Video.{first_video_fault, fault_after_head, most_frames, video_fault}
 use Rattle.loss_trace.specs.declared.event.Event.{Event as Line}
 use Rattle.loss_trace.specs.declared.event.Event.TheVariants as says
 use Rattle.loss_trace.specs.Lines.{first_line}
@@ -16,7 +16,7 @@ use Rattle.call_report.specs.declared.status.Status.TheVariants.{VideoRefused, V
 use Rattle.call_encoding.specs.Frames.{Frame}
 use Rattle.call_model.specs.IdealCall.{Event, Send, Deliver, Play, Back}
 use Rattle.call_model.specs.Refusals.{Refusal}
-use Rattle.desk_program.specs.Run.{Run, Step, left_after, follow, run_of, silence}
+use Rattle.desk_program.specs.Run.{Run, Step, left_after, follow, machine_run, silence}
 use Rattle.duplex_call.specs.declared.line.Party.{Party}
 use Rattle.duplex_call.specs.declared.line.Party.TheVariants.{A, B}
 use Rattle.duplex_call.specs.Duplex.{WayRuns}
@@ -34,7 +34,7 @@ second_is a b is = cc is
 module _ (frame_laws : FrameLaws) (fault : Y4mFault) where
   -- the rest of a video has this first fault, where its next frame stands at such a place
   abbrev HasFault : Format → VideoPlace → List ℕ → Type 0
-  HasFault f place video = fault_of f place.more place.at video ≡ Some fault
+  HasFault f place video = first_video_fault f place.more place.at video ≡ Some fault
 
   some_left : (m at : ℕ) (f : Format) (video planes : List ℕ) → next_frame m f at video ≡ Ok planes → m - 1 + 1 ≡ m
   some_left zero at f video planes is = absurd (cc is)
@@ -51,7 +51,7 @@ module _ (frame_laws : FrameLaws) (fault : Y4mFault) where
       let e = frame_laws.next f place.more (place.more - 1) place.at (b ∷ v) planes
       (some_left place.more place.at f (b ∷ v) planes is) (omega arith) is in
       let taken : 0 + size ≡ size = omega arith in
-      e.fault ∙ sym (λ i. fault_of f (place.more - 1) (place.at + size) (drop (taken i) (same i))) ∙ later
+      e.fault ∙ sym (λ i. first_video_fault f (place.more - 1) (place.at + size) (drop (taken i) (same i))) ∙ later
 
   at_fault : (f : Format) (place : VideoPlace) (b : ℕ) (v : List ℕ) (broken : Y4mFault)
       → next_frame place.more f place.at (b ∷ v) ≡ Err broken → broken ≡ fault → HasFault f place (b ∷ v)
@@ -168,18 +168,18 @@ module _ (frame_laws : FrameLaws) (fault : Y4mFault) where
   no_fault B is = absurd (cc is)
 
   run_refused : (n : ℕ) (x : Party) (s : DuplexState) (inputs : Role → List ℕ)
-      → (run_of duplex_step n s inputs).last.status ≡ refused_party_video x fault → IsFaulty x s inputs
-  unfolding run_of
+      → (machine_run duplex_step n s inputs).last.status ≡ refused_party_video x fault → IsFaulty x s inputs
+  unfolding machine_run
   run_refused zero x s inputs ends = at_trace s inputs (λ next taken. silence) x
       (λ next taken is. absurd (no_fault x is)) (inputs Events) ends
   run_refused (suc n) x s inputs ends =
-      at_trace s inputs (λ next taken. run_of duplex_step n next (left_after inputs taken)) x
+      at_trace s inputs (λ next taken. machine_run duplex_step n next (left_after inputs taken)) x
       (λ next taken is. run_refused n x next (left_after inputs taken) is) (inputs Events) ends
 
   module _ (p : Params) (inputs : Role → List ℕ) where
     abbrev Ends : Party → Result Format Y4mFault → Result Format Y4mFault → Type 0
     Ends x a b =
-        (follow (heads_step p inputs a b) (λ next taken. run_of duplex_step most_lines next
+        (follow (heads_step p inputs a b) (λ next taken. machine_run duplex_step most_lines next
         (left_after inputs taken))).last.status ≡ refused_party_video x fault
 
     pub first_refused : (duplex_run p inputs).last.status ≡ VideoRefused fault → video_fault (inputs Video) ≡ Some fault
@@ -194,7 +194,7 @@ module _ (frame_laws : FrameLaws) (fault : Y4mFault) where
         by_heads (Ok f) (Ok g) ends =
             let size = head_size (inputs Video) in
             let taken : size + 0 ≡ size = omega arith in
-            subst (λ (n : ℕ). fault_of f most_frames size (drop n (inputs Video)) ≡ Some fault) taken
+            subst (λ (n : ℕ). first_video_fault f most_frames size (drop n (inputs Video)) ≡ Some fault) taken
             (run_refused most_lines A _ (left_after inputs (heads_taken inputs)) ends)
 
     pub second_refused : (duplex_run p inputs).last.status ≡ Video2Refused fault → video_fault (inputs Video2)
@@ -210,5 +210,5 @@ module _ (frame_laws : FrameLaws) (fault : Y4mFault) where
         by_heads (Ok f) (Ok g) ends =
             let size = head_size (inputs Video2) in
             let taken : 0 + size ≡ size = omega arith in
-            subst (λ (n : ℕ). fault_of g most_frames size (drop n (inputs Video2)) ≡ Some fault) taken
+            subst (λ (n : ℕ). first_video_fault g most_frames size (drop n (inputs Video2)) ≡ Some fault) taken
             (run_refused most_lines B _ (left_after inputs (heads_taken inputs)) ends)

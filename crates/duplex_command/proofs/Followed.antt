@@ -12,11 +12,11 @@ use Rattle.y4m.specs.declared.fault.Y4mFault.{Y4mFault}
 use Rattle.y4m.specs.Head.{head_of, head_size}
 use Rattle.y4m.specs.Laws.{FrameLaws}
 use Rattle.y4m.specs.Text.{head_text}
-use Rattle.y4m.specs.Video.{fault_after_head, fault_of, frames_after_head, frames_of, video_fault, video_frames}
+use Rattle.y4m.specs.Video.{fault_after_head, first_video_fault, frames_after_head, frames_of, video_fault, video_frames}
 use Rattle.call_encoding.specs.Frames.{Frame}
 use Rattle.call_model.specs.Before.{sent_before}
 use Rattle.call_command.specs.Recorded.{ShowsWhatArrived, shown_text}
-use Rattle.desk_program.specs.Run.{Run, left_after, follow, run_of, texts_of}
+use Rattle.desk_program.specs.Run.{Run, left_after, follow, machine_run, texts_of}
 use Rattle.duplex_call.specs.declared.line.Party.{Party}
 use Rattle.duplex_call.specs.declared.line.Party.TheVariants.{A, B}
 use Rattle.duplex_call.specs.Duplex.{AllMayHappenOf, Lettered, no_runs, way}
@@ -37,7 +37,7 @@ video_is video f is = ap (λ (r : Result Format Y4mFault). frames_after_head r (
     (drop (head_size video) video)) is
 
 fault_is : (video : List ℕ) (f : Format) → head_of video ≡ Ok f
-    → video_fault video ≡ fault_of f 1048576 (head_size video) (drop (head_size video) video)
+    → video_fault video ≡ first_video_fault f 1048576 (head_size video) (drop (head_size video) video)
 unfolding video_fault
 fault_is video f is = ap (λ (r : Result Format Y4mFault). fault_after_head r (head_size video)
     (drop (head_size video) video)) is
@@ -58,7 +58,7 @@ module _ (q : Params) (f g : Format) (inputs : Role → List ℕ) where
       (way x (ways_of p captures past)).frames) (way x (ways_of p captures past)).past)
       (head_a : head_of (inputs Video) ≡ Ok f) (head_b : head_of (inputs Video2) ≡ Ok g) where
     abbrev rest : DuplexState → (Role → ℕ) → Run
-    rest next taken = run_of duplex_step 16777216 next (left_after inputs taken)
+    rest next taken = machine_run duplex_step 16777216 next (left_after inputs taken)
 
     abbrev left : Role → List ℕ
     left = left_after inputs (heads_taken inputs)
@@ -105,13 +105,13 @@ module _ (q : Params) (f g : Format) (inputs : Role → List ℕ) where
         ahead A = all_ahead A
         ahead B = all_ahead B
 
-        fault : (x : Party) → fault_of (p x).format
+        fault : (x : Party) → first_video_fault (p x).format
             (video_place_of x (state p captures broken laws no_runs (first A) (first B) 0 false)).more
             (video_place_of x (state p captures broken laws no_runs (first A) (first B) 0 false)).at (left (video_of x))
             ≡ broken x
-        fault A = ap (λ (m : ℕ). fault_of f 1048576 (head_size (inputs Video)) (drop m (inputs Video)))
+        fault A = ap (λ (m : ℕ). first_video_fault f 1048576 (head_size (inputs Video)) (drop m (inputs Video)))
             (no_more (head_size (inputs Video))) ∙ sym (fault_is (inputs Video) f head_a)
-        fault B = ap (λ (m : ℕ). fault_of g 1048576 (head_size (inputs Video2)) (drop m (inputs Video2)))
+        fault B = ap (λ (m : ℕ). first_video_fault g 1048576 (head_size (inputs Video2)) (drop m (inputs Video2)))
             (none_before (head_size (inputs Video2))) ∙ sym (fault_is (inputs Video2) g head_b)
 
     comes : Comes p captures broken laws [] (line_events 16777216 (inputs Events)) (fault_in 16777216 1 (inputs Events))

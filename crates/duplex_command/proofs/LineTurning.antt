@@ -13,7 +13,7 @@ use Rattle.loss_trace.specs.declared.fault.TraceStop.{TraceStop}
 use Rattle.loss_trace.specs.declared.fault.TraceStop.TheVariants as stops
 use Rattle.loss_trace.specs.Place.{TracePlace}
 use Rattle.loss_trace.specs.Lines.{first_line, is_closed}
-use Rattle.loss_trace.specs.Reader.{BytesGive, Moves, Passes}
+use Rattle.loss_trace.specs.Reader.{BytesGive, MovesTrace, Passes}
 use Rattle.loss_trace.specs.Reading.{event_in}
 use Rattle.call_report.specs.declared.status.Status.{Status}
 use Rattle.call_report.specs.declared.status.Status.TheVariants.{Ok as Fine, TraceRefused}
@@ -157,7 +157,8 @@ module _ (laws : LineLaws) (s : DuplexState) (inputs : Role
   bad_ends fault step is = record { last = bad_line fault; is = is; by = laws.bad fault inputs old mid read }
 
   pub trace_stops : (buf : List ℕ) (stop : TraceStop)
-      → BytesGive (Err stop) reader (inputs Events) buf after (mid.left Events) → Moves {A = ℕ} (Err stop) reader after
+      → BytesGive (Err stop) reader (inputs Events) buf after (mid.left Events)
+      → MovesTrace {A = ℕ} (Err stop) reader after
       → GivesUp (phase (trace_stop stop)) (trace_stop stop) (duplex_step s inputs) (talk_may_read s) inputs old mid
   trace_stops buf stops.Read e moves = record {
     part = of Events e.taken;
@@ -182,7 +183,7 @@ module _ (laws : LineLaws) (s : DuplexState) (inputs : Role
 
   -- after a line
   module _ (buf : List ℕ) (found : ℕ × ℕ) (e : BytesGive (Ok (Some found)) reader (inputs Events) buf after
-      (mid.left Events)) (moves : Moves (Ok (Some found)) reader after) where
+      (mid.left Events)) (moves : MovesTrace (Ok (Some found)) reader after) where
     pub found_is : (o : Option (Option (Party × Line))) → party_event (take found.1 buf) ≡ o
         → duplex_step s inputs ≡ lettered_step s inputs o
     found_is o said = line_is s inputs (inputs Events) o e.0.some (omega (arith, moves.1, at.lines_are))

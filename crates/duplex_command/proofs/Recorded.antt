@@ -14,7 +14,7 @@ use Rattle.h263_outside.specs.declared.desk.Role.TheVariants.{Video, Events, Rep
 use Rattle.y4m.specs.declared.fault.Y4mFault.{Y4mFault}
 use Rattle.y4m.specs.Frame.{next_frame, frame_size}
 use Rattle.y4m.specs.Laws.{FrameLaws}
-use Rattle.y4m.specs.Video.{after_frame, fault_of as video_fault_of, frames_of}
+use Rattle.y4m.specs.Video.{after_frame, first_video_fault as video_fault_of, frames_of}
 use Rattle.loss_trace.specs.declared.event.Event.{Event as Line}
 use Rattle.loss_trace.specs.declared.event.Event.TheVariants as says
 use Rattle.loss_trace.specs.declared.fault.TraceFault.{TraceFault}
@@ -22,7 +22,8 @@ use Rattle.loss_trace.specs.declared.fault.TraceFault.TheVariants.{TooMany}
 use Rattle.loss_trace.specs.Lines.{later_lines, first_line, is_closed}
 use Rattle.call_report.specs.declared.status.Status.{Status}
 use Rattle.call_report.specs.declared.status.Status.TheVariants.{Ok as Fine, TraceRefused}
-use Rattle.call_report.specs.Text.{Text, picture_text}
+use Rattle.h263_types.specs.Texts.{Text}
+use Rattle.call_report.specs.Text.{picture_text}
 use Rattle.call_model.specs.Before.{CountsAreThose, sent_before}
 use Rattle.call_model.specs.Coding.{Shown, pictures_of as shown_pictures}
 use Rattle.call_model.specs.IdealCall.{AllMayHappen, Call, Event, Send, Deliver, Play, Back, about, ideal, shown_at, slices_at}
@@ -32,8 +33,8 @@ use Rattle.call_decoding.specs.Rules.{rules_of}
 use Rattle.call_decoding.specs.Styles.{Style}
 use Rattle.call_encoding.specs.Frames.{Frame}
 use Rattle.coded_call.specs.Coding.{coding}
-use Rattle.receiver_end.specs.Answers.{mark_of}
-use Rattle.desk_program.specs.Run.{Run, Step, Turn, left_after, follow, run_of, silence, text_of, texts_of, video_refusal}
+use Rattle.receiver_end.specs.Answers.{mark_from}
+use Rattle.desk_program.specs.Run.{Run, Step, Turn, left_after, follow, machine_run, silence, text_of, texts_of, video_refusal}
 use Rattle.desk_program.specs.Run.Step.{Ends}
 use Rattle.desk_program.specs.Texts.{and_of, no_texts, of, only_at_ok}
 use Rattle.one_way.specs.Both.{steady}
@@ -46,7 +47,7 @@ use Rattle.duplex_call.specs.declared.line.Party.{Party}
 use Rattle.duplex_call.specs.declared.line.Party.TheVariants.{A, B}
 use Rattle.duplex_call.specs.Duplex.{AllMayHappenOf, Lettered, WayRuns, other, way, with_delivery, with_play, with_capture}
 use Rattle.duplex_call.specs.Lines.{party_event}
-use Rattle.duplex_call.specs.Refused.{NoneWhereItMayHappenOf, first_of, heard_refusal, refusal_of}
+use Rattle.duplex_call.specs.Refused.{NoneWhereItMayHappenOf, earlier_refusal, heard_refusal, refusal_of}
 use Rattle.duplex_ends.specs.Ways.{call_in, sides, with_places, with_whole}
 use Rattle.duplex_command.specs.Duplex.{DuplexState, VideoPlace, after_party_line, both_counts, party_capture_step, party_captured_step, duplex_step, letter_of, lettered_step, party_step, pictures_role, video_place_of, play_step, party_play_texts, quiet_party_step, party_refusal, refused_party_video, seen_of, duplex_trace_step, video_of, with_party_frame, with_next}
 use Rattle.duplex_command.specs.Recorded.{AreCallsEnded, IsPartyRefusal, IsRefusedPartyCapture, LineEvent, LetteredMayHappen, AllLetteredMayHappen, party_capture_told, bad_from, party_call_after, fault_in, and_event, line_events, told_line, told_lines, ways_of, with_event, with_lettered, with_all_lettered, with_party_packets}
@@ -359,7 +360,7 @@ module _ (p : Party → Params) (captures : Party → List Picture) (broken : Pa
           → refusal_of (sides p) (length (captures x)) x (Deliver n j) met ≡ Some r
       packet_so x n j r is =
           let c = call x past in
-          ap (λ (o : Option Refusal). first_of o (heard_refusal (sides p) (other x) (way (other x) met)
+          ap (λ (o : Option Refusal). earlier_refusal o (heard_refusal (sides p) (other x) (way (other x) met)
           (slice_index_or (way x met).carried n [])))
           (laws.left.packet (rules_of (p x)) n j (length (captures x)) (length c.coded + 1) (length c.coded) c.played
           (map about c.said))
@@ -493,7 +494,7 @@ module _ (p : Party → Params) (captures : Party → List Picture) (broken : Pa
           (call x past).played
 
       abbrev row_at : Party → ℕ → Text
-      row_at x m = picture_text m (Some (mark_of (newest x).mark)) (Some (reference_in (call x past).coded m))
+      row_at x m = picture_text m (Some (mark_from (newest x).mark)) (Some (reference_in (call x past).coded m))
           (Some (letter_of x))
 
       row_is : (x : Party) → told_line p captures x Play past ≡ (play_turn x).texts Report
@@ -729,7 +730,7 @@ module _ (p : Party → Params) (captures : Party → List Picture) (broken : Pa
         → taken Events ≡ line_size (inputs Events)
         → Comes past2 (line_events n (later_lines (inputs Events)))
         (fault_in n (lines + 1 + 1) (later_lines (inputs Events))) (lines + 1 + 1)
-        (run_of duplex_step n (state met2 va2 vb2 (lines + 1) ended2) (left_after inputs taken))
+        (machine_run duplex_step n (state met2 va2 vb2 (lines + 1) ended2) (left_after inputs taken))
 
     module _ (past : List Lettered) (near : Near past) (va vb : VideoPlace) (lines : ℕ) (ended : Bool) (inputs : Role
         → List ℕ) (on : IsOn (ways past) (state (ways past) va vb lines ended) inputs) where
@@ -751,7 +752,7 @@ module _ (p : Party → Params) (captures : Party → List Picture) (broken : Pa
 
       module _ (n : ℕ) where
         abbrev on_with : DuplexState → (Role → ℕ) → Run
-        on_with next taken = run_of duplex_step n next (left_after inputs taken)
+        on_with next taken = machine_run duplex_step n next (left_after inputs taken)
 
         choice_comes : (b : Bool) (bytes : ℕ) (trace : List ℕ) → inputs Events ≡ bytes ∷ trace → GoesOn n lines inputs
             → lines + suc n ≡ 16777216 → nat_lt lines 16777216 ≡ b
@@ -787,8 +788,8 @@ module _ (p : Party → Params) (captures : Party → List Picture) (broken : Pa
     pub run_comes : (n : ℕ) (past : List Lettered) (va vb : VideoPlace) (lines : ℕ) (ended : Bool) (inputs : Role
         → List ℕ) → Near past → IsOn (ways past) (state (ways past) va vb lines ended) inputs
         → lines + n ≡ 16777216 → Comes past (line_events n (inputs Events)) (fault_in n (lines + 1) (inputs Events))
-        (lines + 1) (run_of duplex_step n (state (ways past) va vb lines ended) inputs)
-    unfolding run_of line_events fault_in
+        (lines + 1) (machine_run duplex_step n (state (ways past) va vb lines ended) inputs)
+    unfolding machine_run line_events fault_in
     run_comes zero past va vb lines ended inputs near on room = last_comes past near va vb lines ended inputs on
         (inputs Events) room
     run_comes (suc n) past va vb lines ended inputs near on room =
@@ -797,10 +798,10 @@ module _ (p : Party → Params) (captures : Party → List Picture) (broken : Pa
         subst (λ (w : WayRuns Frame). IsOn w (state w va2 vb2 (lines + 1) ended2) (left_after inputs taken)
         → Comes past2 (line_events n (later_lines (inputs Events)))
         (fault_in n (lines + 1 + 1) (later_lines (inputs Events))) (lines + 1 + 1)
-        (run_of duplex_step n (state w va2 vb2 (lines + 1) ended2) (left_after inputs taken))) (sym is)
+        (machine_run duplex_step n (state w va2 vb2 (lines + 1) ended2) (left_after inputs taken))) (sym is)
         (λ (on3 : IsOn (ways past2) (state (ways past2) va2 vb2 (lines + 1) ended2) (left_after inputs taken)).
         subst (λ (l : List ℕ). Comes past2 (line_events n l) (fault_in n (lines + 1 + 1) l) (lines + 1 + 1)
-        (run_of duplex_step n (state (ways past2) va2 vb2 (lines + 1) ended2) (left_after inputs taken)))
+        (machine_run duplex_step n (state (ways past2) va2 vb2 (lines + 1) ended2) (left_after inputs taken)))
         (after_taken inputs taken gone)
         (run_comes n past2 va2 vb2 (lines + 1) ended2 (left_after inputs taken) near2 on3 (one_less lines n room)))
         on2)

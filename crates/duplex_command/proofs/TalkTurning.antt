@@ -7,7 +7,7 @@ use Rattle.loss_trace.specs.declared.event.Event.{Event as Line}
 use Rattle.loss_trace.specs.declared.fault.TraceFault.TheVariants.{BadLine}
 use Rattle.loss_trace.specs.declared.fault.TraceStop.{TraceStop}
 use Rattle.loss_trace.specs.Place.{TracePlace}
-use Rattle.loss_trace.specs.Reader.{BytesGive, Moves}
+use Rattle.loss_trace.specs.Reader.{BytesGive, MovesTrace}
 use Rattle.call_report.specs.declared.status.Status.{Status}
 use Rattle.call_report.specs.declared.status.Status.TheVariants.{Ok as Fine, TraceRefused, WriteFault}
 use Rattle.call_report.specs.Status.{Phase, phase}
@@ -36,9 +36,9 @@ pub says : (r known : Result (Option (ℕ × ℕ)) TraceStop) (old new : TracePl
 says r known old new rest buf left is gives =
     subst (λ (q : Result (Option (ℕ × ℕ)) TraceStop). BytesGive q old rest buf new left) is gives
 
-pub moved : (r known : Result (Option (ℕ × ℕ)) TraceStop) (old new : TracePlace) → r ≡ known → Moves r old new
-    → Moves known old new
-moved r known old new is moves = subst (λ (q : Result (Option (ℕ × ℕ)) TraceStop). Moves q old new) is moves
+pub moved : (r known : Result (Option (ℕ × ℕ)) TraceStop) (old new : TracePlace) → r ≡ known → MovesTrace r old new
+    → MovesTrace known old new
+moved r known old new is moves = subst (λ (q : Result (Option (ℕ × ℕ)) TraceStop). MovesTrace q old new) is moves
 
 -- what holds in any case holds where it is asked
 pub where_going : (r : Result Bool Status) (P : Type 0) → P → OnGoing r P
@@ -152,13 +152,13 @@ falls_so (Err status) old new is = tt
 pub record WasRead (m : Talk) (after : TracePlace) (buf : List ℕ) (found : ℕ × ℕ) (old mid : Outside) : Type 0 where
   pub gives : (rest : List ℕ) → old.left Events ≡ Some rest
       → BytesGive (Ok (Some found)) m.trace rest buf after (mid.left Events)
-  pub moves : Moves (Ok (Some found)) m.trace after
+  pub moves : MovesTrace (Ok (Some found)) m.trace after
   pub others : (r : Role) → r ≢ Events → mid.left r ≡ old.left r
   pub rest : OnlyReads old mid
 
 pub was_read : (m : Talk) (after : TracePlace) (buf : List ℕ) (o : Option (ℕ × ℕ)) (found : ℕ × ℕ) (old mid : Outside)
     → o ≡ Some found → ((text : List ℕ) → old.left Events ≡ Some text
-    → BytesGive (Ok o) m.trace text buf after (mid.left Events)) → Moves (Ok o) m.trace after
+    → BytesGive (Ok o) m.trace text buf after (mid.left Events)) → MovesTrace (Ok o) m.trace after
     → ((r : Role) → r ≢ Events → mid.left r ≡ old.left r) → OnlyReads old mid → WasRead m after buf found old mid
 was_read m after buf o found old mid is gives moves others rest =
     let known = ap (λ (x : Option (ℕ × ℕ)). let q : Result (Option (ℕ × ℕ)) TraceStop = Ok x in q) is in

@@ -14,7 +14,7 @@ use Rattle.call_model.specs.Coding.{Shown, pictures_of}
 use Rattle.call_model.specs.IdealCall.{shown_last}
 use Rattle.call_encoding.specs.Frames.{Frame}
 use Rattle.coded_call.specs.Coding.{coding}
-use Rattle.receiver_end.specs.Answers.{mark_of}
+use Rattle.receiver_end.specs.Answers.{mark_from}
 use Rattle.one_way.specs.Seen.{in_call, reference_in}
 use Rattle.duplex_call.specs.declared.line.Party.{Party}
 use Rattle.duplex_call.specs.Duplex.{WayRuns, with_play}
@@ -27,7 +27,7 @@ use Rattle.duplex_command.specs.Duplex.{letter_of, party_play_texts}
 -- the row of a play that is told so
 pub row_is : (p : Party → Params) (x : Party) (ways : WayRuns Frame) → AfterPlay p x ways
     → (letter number : ℕ) (mark : Mark) (reference : Option ℕ) (picture : Picture) → letter ≡ letter_of x
-    → number ≡ (call_in p x ways).played → mark ≡ mark_of (shown_next p x ways).mark
+    → number ≡ (call_in p x ways).played → mark ≡ mark_from (shown_next p x ways).mark
     → reference ≡ reference_in (call_in p x ways).coded (call_in p x ways).played
     → picture ≡ on_screen p x (with_play (sides p) x ways)
     → row_texts (record {

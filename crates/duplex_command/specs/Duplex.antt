@@ -12,7 +12,7 @@ use Rattle.loss_trace.specs.declared.fault.TraceFault.TheVariants.{BadLine, TooM
 use Rattle.loss_trace.specs.Lines.{first_line, is_closed}
 use Rattle.call_report.specs.declared.status.Status.{Status}
 use Rattle.call_report.specs.declared.status.Status.TheVariants.{Ok as Fine, VideoRefused, Video2Refused}
-use Rattle.call_report.specs.Text.{Text}
+use Rattle.h263_types.specs.Texts.{Text}
 use Rattle.call_model.specs.IdealCall.{Event, Send, Deliver, Play, Back}
 use Rattle.call_model.specs.Refusals.{Refusal}
 use Rattle.call_encoding.specs.Frames.{Frame}

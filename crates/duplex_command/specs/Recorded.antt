@@ -17,14 +17,15 @@ use Rattle.loss_trace.specs.declared.fault.TraceFault.TheVariants.{BadLine, TooM
 use Rattle.loss_trace.specs.Lines.{later_lines, first_line}
 use Rattle.call_report.specs.declared.status.Status.{Status}
 use Rattle.call_report.specs.declared.status.Status.TheVariants.{TraceRefused}
-use Rattle.call_report.specs.Text.{Text, picture_text}
+use Rattle.h263_types.specs.Texts.{Text}
+use Rattle.call_report.specs.Text.{picture_text}
 use Rattle.call_model.specs.Coding.{Shown}
 use Rattle.call_model.specs.CodedPictures.{Coded}
 use Rattle.call_model.specs.IdealCall.{Back, Call, Deliver, Event, Play, Send, encoded, slices_at}
 use Rattle.call_model.specs.Refusals.{NoFrame, Refusal}
 use Rattle.call_decoding.specs.Styles.{Style}
 use Rattle.call_encoding.specs.Frames.{Frame}
-use Rattle.receiver_end.specs.Answers.{mark_of}
+use Rattle.receiver_end.specs.Answers.{mark_from}
 use Rattle.desk_program.specs.Run.{Run, text_of}
 use Rattle.one_way.specs.Seen.{reference_in}
 use Rattle.call_command.specs.Recorded.{ShowsWhatArrived, shown_text, trace_read_out}
@@ -89,7 +90,7 @@ fault_in (suc n) line (b ∷ text) =
 abbrev pub newest_line : Party → List (Coded Style Mb Picture) → List (Shown Picture) → Text
 newest_line x coded [] = []
 newest_line x coded (shown ∷ plays) =
-    picture_text (length plays) (Some (mark_of shown.mark))
+    picture_text (length plays) (Some (mark_from shown.mark))
     (Some (reference_in coded (length plays))) (Some (letter_of x))
 
 module _ (p : Party → Params) (captures : Party → List Picture) where

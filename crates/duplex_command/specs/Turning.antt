@@ -15,7 +15,7 @@ use Rattle.call_command.specs.Call.{line_size}
 use Rattle.call_command.specs.Standing.{HasTaken}
 use Rattle.duplex_call.specs.declared.line.Party.{Party}
 use Rattle.duplex_call.specs.declared.line.Party.TheVariants.{A}
-use Rattle.duplex_ends.specs.Pair.{MayHappenNow}
+use Rattle.duplex_ends.specs.Pair.{MayHappenToParty}
 use Rattle.duplex_command.specs.declared.event.TraceLine.{TraceLine}
 use Rattle.duplex_command.specs.declared.station.Station.{Station}
 use Rattle.duplex_command.specs.declared.talk.Talk.{Talk}
@@ -80,7 +80,7 @@ pub record IsPartyAsked (x : Party) (own far : Station) (line : ℕ) (trace : Tr
 -- a frame may be captured at some point of the call of both parties
 pub record MayCapture (own far : Station) (room : ℕ) : Type 0 where
   pub stations : StationsReady own far room
-  pub may : MayHappenNow own.ends far.ends Send
+  pub may : MayHappenToParty own.ends far.ends Send
 
 abbrev pub TakesPartyFrame : Party → Station → Station → Station → ℕ → Result Bool Status
     → Outside → Outside → ℕ → Type 0

@@ -12,7 +12,7 @@ ghost use Rattle.desk_program.specs.Laws.{StepLaws, TurnLaws};
 ghost use Rattle.call_command.specs.Laws.{LineLaws, VideoLaws};
 ghost use Rattle.duplex_call.specs.declared.line.Party.{Party};
 ghost use Rattle.duplex_call.specs.Duplex.{AllMayHappenOf, Lettered, way, ways_after};
-ghost use Rattle.duplex_call.specs.FourStores.{Follows};
+ghost use Rattle.duplex_call.specs.FourStores.{PartyEndsFollow};
 ghost use Rattle.duplex_call.specs.Refused.{NoneWhereItMayHappenOf};
 ghost use Rattle.duplex_ends.specs.Ways.{sides};
 ghost use Rattle.duplex_command.specs.Begin.{duplex_run, in_formats};
@@ -113,7 +113,7 @@ pub fn refused_videos()
 pub fn four_stores()
     ensures { (p : Party → Params) (captures : Party → List Picture) (past : List Lettered)
         → ((x : Party) → IsParams (p x)) → AllMayHappenOf (sides p) captures past
-        → (x : Party) → Follows (sides p) x (way x (ways_after (sides p) captures past)) }
+        → (x : Party) → PartyEndsFollow (sides p) x (way x (ways_after (sides p) captures past)) }
 {
     is_coding();
     are_rules();

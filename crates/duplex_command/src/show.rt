@@ -4,7 +4,7 @@ ghost use Rattle.std.specs.Prelude.{◌≡◌, ◌<◌, ◌≤◌, ◌+◌, ℕ,
 ghost use Rattle.h263_outside.specs.Desk.{OnlyWrites, Rose};
 ghost use Rattle.h263_outside.specs.declared.desk.Role.TheVariants.{Pictures, Report};
 ghost use Rattle.h263_types.specs.declared.params.Params.{Params};
-ghost use Rattle.call_report.specs.View.{text_of};
+ghost use Rattle.call_report.specs.View.{line_text};
 ghost use Rattle.call_command.specs.Counts.{call_text_of};
 ghost use Rattle.call_model.specs.IdealCall.{Play};
 ghost use Rattle.call_encoding.specs.Frames.{Frame};
@@ -14,7 +14,7 @@ ghost use Rattle.duplex_call.specs.declared.line.Party.{Party};
 ghost use Rattle.duplex_call.specs.declared.line.Party.TheVariants.{A};
 ghost use Rattle.duplex_call.specs.Duplex.{MayHappenOf, WayRuns, with_play};
 ghost use Rattle.duplex_ends.specs.Keeping.{KeepsInPlay};
-ghost use Rattle.duplex_ends.specs.Pair.{AreInCall, HoldsPair, MayHappenNow};
+ghost use Rattle.duplex_ends.specs.Pair.{AreInCall, HoldsPair, MayHappenToParty};
 ghost use Rattle.duplex_ends.specs.Ways.{call_in, sides};
 ghost use Rattle.duplex_command.specs.Duplex.{both_counts, letter_of, party_play_texts};
 
@@ -45,7 +45,7 @@ pub fn play_next<D: Desk>(
 ) -> Result<(), Status>
     requires pictures { (D.outside desk.old).attached Pictures ≡ true }
     requires report { (D.outside desk.old).attached Report ≡ true }
-    requires near { MayHappenNow own.old far.old Play }
+    requires near { MayHappenToParty own.old far.old Play }
     ensures ready { AreInCall own.new far.new }
     ensures keeps { KeepsInPlay own.old far.old own.new far.new }
     ensures holds { (p : Party → Params) (x : Party) (ways : WayRuns Frame) (left : ℕ)
@@ -85,7 +85,7 @@ fn party_line(word: &str, ends: &PartyEnds) -> Line
     requires { length word.now ≤ 16 }
     ensures { (p : Party → Params) (x : Party) (far : PartyEnds) (ways : WayRuns Frame)
         → HoldsPair p x ends.now far ways
-        → text_of result ≡ call_text_of word.now (in_call (call_in p x ways)) }
+        → line_text result ≡ call_text_of word.now (in_call (call_in p x ways)) }
 {
     duplex_ends_laws::pair_laws();
     counts_line(word, ends.tally(), ends.played(), ends.sent())

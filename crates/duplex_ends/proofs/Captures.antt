@@ -17,7 +17,7 @@ use Rattle.call_model.specs.TwoStores.{Agree, travelling}
 use Rattle.call_decoding.specs.Rules.{rules_of}
 use Rattle.call_decoding.specs.Styles.{Style}
 use Rattle.call_encoding.specs.Frames.{Frame}
-use Rattle.call_encoding.specs.Messages.{marked}
+use Rattle.call_encoding.specs.Messages.{marked_message}
 use Rattle.coded_call.specs.Coding.{coding}
 use Rattle.receiver_end.specs.State as receiver_end
 use Rattle.duplex_call.specs.declared.queue.Carried.{Carried}
@@ -27,10 +27,10 @@ use Rattle.one_way.specs.Both.{both_after, carrying, steady}
 use Rattle.one_way.specs.Counts.{total_of}
 use Rattle.one_way.specs.Way.{CanSend, HoldsWay, MayHappenNow, kept_in, tally_of}
 use Rattle.duplex_ends.specs.declared.party.PartyEnds.{PartyEnds}
-use Rattle.duplex_ends.specs.Bringing.{AreOfClock, message_in}
+use Rattle.duplex_ends.specs.Bringing.{AreOfClock, carried_message}
 use Rattle.duplex_ends.specs.Headers.{AreNumbered, HoldsHeaders, kept_by}
 use Rattle.duplex_ends.specs.Pair.{HoldsParty}
-use Rattle.duplex_ends.specs.Ways.{call_by, carried_as, told_by}
+use Rattle.duplex_ends.specs.Ways.{call_by, carried_as, carried_from}
 use Rattle.duplex_ends.proofs.Lists.{at_last, at_left, at_past, last_few, last_numbered, map_long, messages_are}
 
 -- ---- the messages of a header
@@ -42,12 +42,12 @@ drop_fit clock (suc k) [] fit = fit
 drop_fit clock (suc k) (m ∷ messages) fit = drop_fit clock k messages fit.1
 
 are_messages : (clock : Clock) (messages : List Carried) → AreOfClock clock messages
-    → AreMessages clock (map message_in messages)
+    → AreMessages clock (map carried_message messages)
 are_messages clock [] fit = tt
 are_messages clock (m ∷ messages) fit = (fit.0, are_messages clock messages fit.1)
 
 pub waiting_fit : (clock : Clock) (told : List Carried) (loaded : ℕ) → AreOfClock clock told
-    → AreMessages clock (map message_in (last_four (drop loaded told)))
+    → AreMessages clock (map carried_message (last_four (drop loaded told)))
 waiting_fit clock told loaded fit =
     are_messages clock (last_four (drop loaded told)) (drop_fit clock _ (drop loaded told)
     (drop_fit clock loaded told fit))
@@ -66,10 +66,10 @@ module _ (p q : Params) (own : PartyEnds) (w v : WayRun Frame) (h : HoldsParty p
   numbers = numbers_carried w.loaded (length said)
 
   abbrev pub waiting : List Carried
-  waiting = last_four (drop w.loaded (told_by q v))
+  waiting = last_four (drop w.loaded (carried_from q v))
 
   abbrev pub frame : Frame
-  frame = carrying picture (map marked (messages_at said numbers))
+  frame = carrying picture (map marked_message (messages_at said numbers))
 
   abbrev pub captured : WayRun Frame
   captured = record {
@@ -79,32 +79,32 @@ module _ (p q : Params) (own : PartyEnds) (w v : WayRun Frame) (h : HoldsParty p
     loaded = length said;
   }
 
-  long : length said ≡ length (told_by q v)
+  long : length said ≡ length (carried_from q v)
   long = map_long (travelling (rules_of q)) (call_by q v).said
       ∙ sym (map_long (carried_as (rules_of q)) (call_by q v).said)
 
-  numbered : AreNumbered (told_by q v) numbers waiting
-  numbered = subst (λ (n : ℕ). AreNumbered (told_by q v) (numbers_carried w.loaded n) waiting) (sym long)
-      (last_numbered (told_by q v) w.loaded h.loaded)
+  numbered : AreNumbered (carried_from q v) numbers waiting
+  numbered = subst (λ (n : ℕ). AreNumbered (carried_from q v) (numbers_carried w.loaded n) waiting) (sym long)
+      (last_numbered (carried_from q v) w.loaded h.loaded)
 
-  pub same_messages : map marked (messages_at said numbers) ≡ map message_in waiting
-  same_messages = messages_are (travelling (rules_of q)) marked (carried_as (rules_of q)) (λ note. refl)
+  pub same_messages : map marked_message (messages_at said numbers) ≡ map carried_message waiting
+  same_messages = messages_are (travelling (rules_of q)) marked_message (carried_as (rules_of q)) (λ note. refl)
       (call_by q v).said numbers waiting numbered
 
   -- each header has its messages by their numbers, and so has the new one
-  each_numbered : (n : ℕ) → AreNumbered (told_by q v) (slice_index_or (w.carried ++ numbers ∷ []) n [])
+  each_numbered : (n : ℕ) → AreNumbered (carried_from q v) (slice_index_or (w.carried ++ numbers ∷ []) n [])
       (slice_index_or (h.carries.headers ++ waiting ∷ []) n [])
   each_numbered n = by_place (cases_lt n (length w.carried))
     where
       by_last : (length w.carried < n) ⊎ (n ≤ length w.carried) → length w.carried ≤ n
-          → AreNumbered (told_by q v) (slice_index_or (w.carried ++ numbers ∷ []) n [])
+          → AreNumbered (carried_from q v) (slice_index_or (w.carried ++ numbers ∷ []) n [])
           (slice_index_or (h.carries.headers ++ waiting ∷ []) n [])
       by_last (inl past) high =
           let one = at_past w.carried numbers [] n past in
           let two = at_past h.carries.headers waiting [] n (omega (arith, past, h.carries.count)) in
-          subst (λ (ks : List ℕ). AreNumbered (told_by q v) ks (slice_index_or (h.carries.headers
+          subst (λ (ks : List ℕ). AreNumbered (carried_from q v) ks (slice_index_or (h.carries.headers
           ++ waiting ∷ []) n [])) (sym one)
-          (subst (λ (ms : List Carried). AreNumbered (told_by q v) [] ms) (sym two) tt)
+          (subst (λ (ms : List Carried). AreNumbered (carried_from q v) [] ms) (sym two) tt)
       by_last (inr low) high =
           let is : length w.carried ≡ n = omega (arith, low, high) in
           let is_header : length h.carries.headers ≡ n = h.carries.count ∙ is in
@@ -114,19 +114,19 @@ module _ (p q : Params) (own : PartyEnds) (w v : WayRun Frame) (h : HoldsParty p
           let two : slice_index_or (h.carries.headers ++ waiting ∷ []) n []
           ≡ waiting = ap (λ (k : ℕ). slice_index_or (h.carries.headers ++ waiting ∷ []) k []) (sym is_header)
           ∙ at_last h.carries.headers waiting [] in
-          subst (λ (ks : List ℕ). AreNumbered (told_by q v) ks (slice_index_or (h.carries.headers
+          subst (λ (ks : List ℕ). AreNumbered (carried_from q v) ks (slice_index_or (h.carries.headers
           ++ waiting ∷ []) n [])) (sym one)
-          (subst (λ (ms : List Carried). AreNumbered (told_by q v) numbers ms) (sym two) numbered)
+          (subst (λ (ms : List Carried). AreNumbered (carried_from q v) numbers ms) (sym two) numbered)
 
       by_place : (n < length w.carried) ⊎ (length w.carried ≤ n)
-          → AreNumbered (told_by q v) (slice_index_or (w.carried ++ numbers ∷ []) n [])
+          → AreNumbered (carried_from q v) (slice_index_or (w.carried ++ numbers ∷ []) n [])
           (slice_index_or (h.carries.headers ++ waiting ∷ []) n [])
       by_place (inl below) =
           let one = at_left w.carried numbers [] n below in
           let two = at_left h.carries.headers waiting [] n (omega (arith, below, h.carries.count)) in
-          subst (λ (ks : List ℕ). AreNumbered (told_by q v) ks (slice_index_or (h.carries.headers
+          subst (λ (ks : List ℕ). AreNumbered (carried_from q v) ks (slice_index_or (h.carries.headers
           ++ waiting ∷ []) n [])) (sym one)
-          (subst (λ (ms : List Carried). AreNumbered (told_by q v) (slice_index_or w.carried n []) ms) (sym two)
+          (subst (λ (ms : List Carried). AreNumbered (carried_from q v) (slice_index_or w.carried n []) ms) (sym two)
           (h.carries.each n))
       by_place (inr high) = by_last (cases_lt (length w.carried) n) high
 
@@ -143,7 +143,7 @@ module _ (p q : Params) (own : PartyEnds) (w v : WayRun Frame) (h : HoldsParty p
       by_last (inr low) high =
           let is : length h.carries.headers ≡ n = omega (arith, low, high) in
           few waiting (ap (λ (k : ℕ). slice_index_or (h.carries.headers ++ waiting ∷ []) k []) (sym is)
-          ∙ at_last h.carries.headers waiting []) (last_few (drop w.loaded (told_by q v)))
+          ∙ at_last h.carries.headers waiting []) (last_few (drop w.loaded (carried_from q v)))
 
       by_place : (n < length h.carries.headers) ⊎ (length h.carries.headers ≤ n)
           → length (slice_index_or (h.carries.headers ++ waiting ∷ []) n []) ≤ 4
@@ -179,7 +179,7 @@ module _ (p q : Params) (own : PartyEnds) (w v : WayRun Frame) (h : HoldsParty p
     headers = omega (arith, h.headers, one_longer w.frames frame, one_longer w.carried numbers);
     loaded = omega (arith, long);
     waits = subst (λ (l : List Carried). Waits new.waiting l)
-        (sym (drop_all (length said) (told_by q v) (omega (arith, long)))) none;
+        (sym (drop_all (length said) (carried_from q v) (omega (arith, long)))) none;
   }
 
   -- it may happen by what the ends have done, once there is its frame

@@ -14,7 +14,7 @@ use Rattle.call_model.specs.TwoStores.{Agree, told_of}
 use Rattle.call_decoding.specs.Rules.{rules_of}
 use Rattle.call_decoding.specs.Styles.{Style}
 use Rattle.call_encoding.specs.Frames.{Frame}
-use Rattle.call_encoding.specs.Messages.{write_message, written}
+use Rattle.call_encoding.specs.Messages.{write_message, written_message}
 use Rattle.coded_call.specs.Coding.{coding}
 use Rattle.receiver_end.specs.State as receiver_end
 use Rattle.duplex_call.specs.declared.queue.Carried.{Carried}
@@ -28,7 +28,7 @@ use Rattle.duplex_ends.specs.declared.party.PartyEnds.{PartyEnds}
 use Rattle.duplex_ends.specs.Bringing.{MayReturnAll}
 use Rattle.duplex_ends.specs.Headers.{AreNumbered, kept_by}
 use Rattle.duplex_ends.specs.Pair.{HoldsPair, HoldsParty}
-use Rattle.duplex_ends.specs.Ways.{call_by, carried_as, sides, told_by, with_places}
+use Rattle.duplex_ends.specs.Ways.{call_by, carried_as, sides, carried_from, with_places}
 use Rattle.duplex_ends.proofs.Agreeing.{agree, delivers, told_at}
 use Rattle.duplex_ends.proofs.Lists.{get_map}
 use Rattle.duplex_ends.proofs.Runs.{coded_still, said_still}
@@ -133,7 +133,7 @@ module _ (p : Party → Params) (y : Party) (in_range : IsParams (p y)) (calls :
   abbrev far_both : Joined Style Mb Picture
   far_both = both_after (p y) (steady (p y)) v.frames [] v.past
 
-  pub may_return : (ks : List ℕ) (messages : List Carried) → AreNumbered (told_by (p y) v) ks messages
+  pub may_return : (ks : List ℕ) (messages : List Carried) → AreNumbered (carried_from (p y) v) ks messages
       → MayBeBrought (sides p) y v ks → MayReturnAll (p y) far_both ks messages
   may_return [] [] are may = tt
   may_return (k ∷ ks) (m ∷ messages) are may =
@@ -145,7 +145,7 @@ module _ (p : Party → Params) (y : Party) (in_range : IsParams (p y)) (calls :
         record {
           told = told_of write_message (rules_of (p y)) note;
           is = told_at (p y) in_range calls near_laws far.way far.sender far.far_end v done k note may.0.1;
-          bytes = ap (λ (m : Carried). written m.message) is;
+          bytes = ap (λ (m : Carried). written_message m.message) is;
           near = omega (arith, may.0.2, ap (λ (l : List (Coded Style Mb Picture)). length l) agreed.pictures);
         },
         may_return ks messages are.1 may.1,

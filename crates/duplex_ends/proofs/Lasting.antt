@@ -6,7 +6,7 @@ use Rattle.std.proofs.lemmas.Option.{slice_get-get_or}
 use Rattle.std.proofs.lemmas.List.{length-drop, length-map, get_or-drop, get_or-map}
 use Rattle.circular_buffer.specs.Buffer.{keep_last}
 use Rattle.duplex_call.specs.declared.queue.Carried.{Carried}
-use Rattle.duplex_call.specs.Waiting.{placed}
+use Rattle.duplex_call.specs.Waiting.{in_four_places}
 use Rattle.duplex_ends.specs.declared.headers.CarriedRing.{CarriedRing}
 use Rattle.duplex_ends.specs.Headers.{HoldsHeaders, kept_by}
 
@@ -29,12 +29,12 @@ last_kept {X} xs n k since d e near =
 
 pub header_kept : (ring : CarriedRing) (headers : List (List Carried)) (number since : ℕ) → HoldsHeaders ring headers
     → number < length headers → length headers ≤ number + kept_by ring
-    → since ≡ ring.newest - number → from_back ring.kept.items since ≡ Some (placed (get_or headers number []))
+    → since ≡ ring.newest - number → from_back ring.kept.items since ≡ Some (in_four_places (get_or headers number []))
 header_kept ring headers number since held low near is =
-    let all : List (List (Option Carried)) = map placed headers in
-    let long : length all ≡ length headers = length-map headers placed in
+    let all : List (List (Option Carried)) = map in_four_places headers in
+    let long : length all ≡ length headers = length-map headers in_four_places in
     ap (λ (l : List (List (Option Carried))). from_back l since) held.last
     ∙ last_kept all (kept_by ring) number since [] (omega (arith, long, low, is, held.newest))
     (omega (arith, long, near))
     ∙ ap (λ (x : List (Option Carried)). let o : Option (List (Option Carried)) = Some x in
-    o) (get_or-map placed headers number [] [] low)
+    o) (get_or-map in_four_places headers number [] [] low)

@@ -8,8 +8,8 @@ use Rattle.back_messages.specs.declared.message.Message.{Message}
 use Rattle.call_model.specs.Coding as call
 use Rattle.duplex_call.specs.declared.queue.Carried.{Carried}
 use Rattle.duplex_call.specs.Duplex.{messages_at, numbers_carried}
-use Rattle.duplex_call.specs.Waiting.{last_four, placed}
-use Rattle.duplex_ends.specs.Bringing.{carried_in, message_in}
+use Rattle.duplex_call.specs.Waiting.{last_four, in_four_places}
+use Rattle.duplex_ends.specs.Bringing.{carried_in, carried_message}
 use Rattle.duplex_ends.specs.Headers.{AreNumbered}
 
 -- ---- lists
@@ -80,7 +80,7 @@ last_few xs = omega (arith, long xs (length xs - 4))
     long [] (suc k) = omega arith
     long (x ∷ xs) (suc k) = omega (arith, long xs k)
 
-pub carried_placed : (messages : List Carried) → length messages ≤ 4 → carried_in (placed messages) ≡ messages
+pub carried_placed : (messages : List Carried) → length messages ≤ 4 → carried_in (in_four_places messages) ≡ messages
 carried_placed [] few = refl
 carried_placed (a ∷ []) few = refl
 carried_placed (a ∷ b ∷ []) few = refl
@@ -151,9 +151,9 @@ last_numbered said loaded few =
 -- messages by their numbers, as a header carries them
 pub messages_are : {X : Type 0} (as_call : X → call.Message) (as_back : call.Message → Message) (as_carried : X
     → Carried)
-    → ((x : X) → message_in (as_carried x) ≡ as_back (as_call x))
+    → ((x : X) → carried_message (as_carried x) ≡ as_back (as_call x))
     → (notes : List X) (ks : List ℕ) (messages : List Carried) → AreNumbered (map as_carried notes) ks messages
-    → map as_back (messages_at (map as_call notes) ks) ≡ map message_in messages
+    → map as_back (messages_at (map as_call notes) ks) ≡ map carried_message messages
 messages_are as_call as_back as_carried same notes [] [] are = refl
 messages_are as_call as_back as_carried same notes (k ∷ ks) (m ∷ messages) are =
     let at = map_get as_carried notes k m are.0 in
@@ -161,7 +161,9 @@ messages_are as_call as_back as_carried same notes (k ∷ ks) (m ∷ messages) a
     let is : as_carried at.0 ≡ m = cc at.2 in
     ap (λ (o : Option call.Message). map as_back (option_map_or (λ message. message ∷ []) o []
     ++ messages_at (map as_call notes) ks)) here
-    ∙ ap (λ (n : Message). n ∷ map as_back (messages_at (map as_call notes) ks)) (sym (same at.0) ∙ ap message_in is)
-    ∙ ap (λ (l : List Message). message_in m ∷ l) (messages_are as_call as_back as_carried same notes ks messages are.1)
+    ∙ ap (λ (n : Message). n ∷ map as_back (messages_at (map as_call notes) ks)) (sym (same at.0)
+    ∙ ap carried_message is)
+    ∙ ap (λ (l : List Message). carried_message m ∷ l) (messages_are as_call as_back as_carried same notes ks messages
+    are.1)
 messages_are as_call as_back as_carried same notes [] (m ∷ messages) are = absurd are
 messages_are as_call as_back as_carried same notes (k ∷ ks) [] are = absurd are

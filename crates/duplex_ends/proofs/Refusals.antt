@@ -12,13 +12,13 @@ use Rattle.call_decoding.specs.Rules.{rules_of}
 use Rattle.duplex_call.specs.declared.queue.Carried.{Carried}
 use Rattle.duplex_call.specs.declared.line.Party.{Party}
 use Rattle.duplex_call.specs.Duplex.{WayRun}
-use Rattle.duplex_call.specs.Refused.{first_of, heard_refusal, own_refusal}
+use Rattle.duplex_call.specs.Refused.{earlier_refusal, heard_refusal, own_refusal}
 use Rattle.one_way.specs.declared.refusals.EventRefusal.{EventRefusal}
 use Rattle.one_way.specs.declared.refusals.EventRefusal.TheVariants.{Far}
 use Rattle.one_way.specs.Refused.{IsAllowed}
 use Rattle.duplex_ends.specs.Bringing.{first_far}
 use Rattle.duplex_ends.specs.Headers.{AreNumbered}
-use Rattle.duplex_ends.specs.Ways.{call_by, carried_as, sides, told_by}
+use Rattle.duplex_ends.specs.Ways.{call_by, carried_as, sides, carried_from}
 use Rattle.duplex_ends.proofs.Lists.{get_map, map_get}
 
 -- what holds where there is no refusal holds where the event is allowed
@@ -49,17 +49,17 @@ about_far rules pictures sent played abouts k t at =
 
 -- the first that is refused is told first
 pub first_allowed : (result : Result Unit EventRefusal) (e : Event) (one two : Option call.Refusal) → one ≡ None
-    → IsAllowed result e two → IsAllowed result e (first_of one two)
-first_allowed result e one two none is = subst (λ (o : Option call.Refusal). IsAllowed result e (first_of o two))
+    → IsAllowed result e two → IsAllowed result e (earlier_refusal one two)
+first_allowed result e one two none is = subst (λ (o : Option call.Refusal). IsAllowed result e (earlier_refusal o two))
     (sym none) is
 
 pub first_refused : (told : EventRefusal) (e : Event) (one two : Option call.Refusal) → IsAllowed (Err told) e one
-    → IsAllowed (Err told) e (first_of one two)
-first_refused told e one two is = (is.0, ap (λ (o : Option call.Refusal). first_of o two) is.1, is.2)
+    → IsAllowed (Err told) e (earlier_refusal one two)
+first_refused told e one two is = (is.0, ap (λ (o : Option call.Refusal). earlier_refusal o two) is.1, is.2)
 
 -- the messages of a header are refused as it is told
 module _ (p : Party → Params) (y : Party) (v : WayRun Frame) (n j : ℕ) where
-  one_heard : (m : Carried) (k : ℕ) → slice_get (told_by (p y) v) k ≡ Some m
+  one_heard : (m : Carried) (k : ℕ) → slice_get (carried_from (p y) v) k ≡ Some m
       → own_refusal (sides p) 0 y v (Back k)
       ≡ (if nat_le (m.about + (rules_of (p y)).half) (length (call_by (p y) v).coded) then Some
       (call.Far m.about (length (call_by (p y) v).coded)) else None)
@@ -77,17 +77,17 @@ module _ (p : Party → Params) (y : Party) (v : WayRun Frame) (n j : ℕ) where
   abbrev sent : ℕ
   sent = length (call_by (p y) v).coded
 
-  pub heard_is : (ks : List ℕ) (messages : List Carried) → AreNumbered (told_by (p y) v) ks messages
+  pub heard_is : (ks : List ℕ) (messages : List Carried) → AreNumbered (carried_from (p y) v) ks messages
       → IsAllowed (first_far half sent messages) (Deliver n j) (heard_refusal (sides p) y v ks)
   heard_is [] [] are = refl
   heard_is (k ∷ ks) (m ∷ messages) are =
       subst (λ (o : Option call.Refusal). IsAllowed (first_far half sent (m ∷ messages)) (Deliver n j)
-      (first_of o (heard_refusal (sides p) y v ks))) (sym (one_heard m k are.0))
+      (earlier_refusal o (heard_refusal (sides p) y v ks))) (sym (one_heard m k are.0))
       (by_test (nat_le (m.about + half) sent) (heard_is ks messages are.1))
     where
       by_test : (b : Bool) → IsAllowed (first_far half sent messages) (Deliver n j) (heard_refusal (sides p) y v ks)
           → IsAllowed (if b then Err (Far m.about sent) else first_far half sent messages) (Deliver n j)
-          (first_of (if b then Some (call.Far m.about sent) else None) (heard_refusal (sides p) y v ks))
+          (earlier_refusal (if b then Some (call.Far m.about sent) else None) (heard_refusal (sides p) y v ks))
       by_test true rest = (call.Far m.about sent, refl, refl)
       by_test false rest = rest
   heard_is [] (m ∷ messages) are = absurd are

@@ -9,7 +9,7 @@ use Rattle.call_model.specs.IdealCall.{Back, Event}
 use Rattle.call_model.specs.JoinedRun.{SaidMessage}
 use Rattle.call_decoding.specs.Styles.{Style}
 use Rattle.call_encoding.specs.Frames.{Frame}
-use Rattle.call_encoding.specs.Messages.{written}
+use Rattle.call_encoding.specs.Messages.{written_message}
 use Rattle.receiver_end.specs.declared.kept.Kept.{Kept}
 use Rattle.duplex_call.specs.declared.queue.Carried.{Carried}
 use Rattle.duplex_call.specs.Duplex.{brought}
@@ -53,7 +53,7 @@ module _ (p : Params) (events : EventLaws p) (way : Way) (receiver : Kept) (fram
 
   -- the next one comes back
   pub one_back : (old new : State) (whole : List Event) (m : Carried) (messages : List Carried) (bytes : List ℕ)
-      → bytes ≡ written m.message
+      → bytes ≡ written_message m.message
       → BringsBack p way old new bytes
       → IsReturning p way old receiver frames whole (m ∷ messages)
       → IsReturning p way new receiver frames whole messages

@@ -4,7 +4,7 @@ use Rattle.std.specs.Prelude.{drop, map, slice_index_or}
 use Rattle.h263_types.specs.declared.blocks.Mb.{Mb}
 use Rattle.h263_types.specs.declared.params.Params.{Params}
 use Rattle.h263_planes.specs.Picture.{Picture}
-use Rattle.back_messages.specs.Said.{text_of}
+use Rattle.back_messages.specs.Said.{text_of_said}
 use Rattle.back_messages.specs.Text as back
 use Rattle.back_messages.specs.declared.writing.Said.{Said}
 use Rattle.call_model.specs.Coding.{Coding, Rules}
@@ -15,7 +15,7 @@ use Rattle.call_model.specs.TwoStores.{Agree, told_of, travelling}
 use Rattle.call_decoding.specs.Rules.{rules_of}
 use Rattle.call_decoding.specs.Styles.{Style}
 use Rattle.call_encoding.specs.Frames.{Frame}
-use Rattle.call_encoding.specs.Messages.{marked, write_message}
+use Rattle.call_encoding.specs.Messages.{marked_message, write_message}
 use Rattle.coded_call.specs.Coding.{coding}
 use Rattle.duplex_call.specs.declared.queue.Carried.{Carried}
 use Rattle.duplex_call.specs.declared.queue.Carrier.{Carrier}
@@ -31,7 +31,7 @@ use Rattle.duplex_ends.specs.Bringing.{read_as, said_as}
 use Rattle.duplex_ends.specs.Headers.{HasHeaders, kept_by}
 use Rattle.duplex_ends.specs.Laws.{SaidLaws}
 use Rattle.duplex_ends.specs.Pair.{HoldsParty}
-use Rattle.duplex_ends.specs.Ways.{call_by, carried_as, told_by}
+use Rattle.duplex_ends.specs.Ways.{call_by, carried_as, carried_from}
 use Rattle.duplex_ends.proofs.Lists.{after_same, drop_left, map_more, numbered_still}
 
 -- ---- messages that come back
@@ -50,8 +50,8 @@ module _ {Frame Style Mb Picture Fault MessageFault : Type 0}
   coded_still [] past = refl
   coded_still (k ∷ ks) past = coded_still ks (Back k ∷ past)
 
-pub told_still : (p : Params) (w : WayRun Frame) (ks : List ℕ) → told_by p (record w { past = brought ks w.past })
-    ≡ told_by p w
+pub told_still : (p : Params) (w : WayRun Frame) (ks : List ℕ) → carried_from p (record w { past = brought ks w.past })
+    ≡ carried_from p w
 told_still p w ks = ap (λ (notes : List NumberedMessage). map (carried_as (rules_of p)) notes)
     (said_still (coding p) (rules_of p) (steady p) w.frames ks w.past)
 
@@ -60,8 +60,8 @@ told_still p w ks = ap (λ (notes : List NumberedMessage). map (carried_as (rule
 pub told_sent : (p : Params) (law : LaterFrames (coding p) (rules_of p)) (w : WayRun Frame) (more : List Frame)
     (carried : List (List ℕ)) (loaded : ℕ)
     → AllMayHappen (coding p) (rules_of p) (steady p) w.frames w.past
-    → told_by p (record { frames = w.frames ++ more; past = Send ∷ w.past; carried = carried; loaded = loaded })
-    ≡ told_by p w
+    → carried_from p (record { frames = w.frames ++ more; past = Send ∷ w.past; carried = carried; loaded = loaded })
+    ≡ carried_from p w
 told_sent p law w more carried loaded near =
     ap (λ (c : Call Style Mb Picture). map (carried_as (rules_of p)) c.said)
     (law (steady p) w.frames more w.past near).0
@@ -87,9 +87,10 @@ module _ (p : Params) (laws : SaidLaws p) where
   read_more w old n (Some said) (x ∷ []) is told =
       let same : tell x ≡ network.told_in (n, said) = cc told in
       let number : about x ≡ n = ap (λ (t : SaidMessage). t.about) same in
-      let bytes : write_message (travelling rules x) ≡ text_of said = ap (λ (t : SaidMessage). t.bytes) same in
+      let bytes : write_message (travelling rules x) ≡ text_of_said said = ap (λ (t : SaidMessage). t.bytes) same in
       let read = laws.read w old x is in
-      ap (λ (k : ℕ). let m : Carried = record { about = k; message = marked (travelling rules x) } in m ∷ []) number
+      ap (λ (k : ℕ). let m : Carried = record { about = k; message = marked_message (travelling rules x) } in
+      m ∷ []) number
       ∙ sym (ap (λ (bytes : List ℕ). read_as n (back.message_in p.clock bytes)) (sym bytes) ∙ ap (read_as n) read)
 
   -- what is told grows by what is said at an event
@@ -100,7 +101,7 @@ module _ (p : Params) (laws : SaidLaws p) where
       → Agree (coding p) rules (call_by p w) (both_after p (steady p) w.frames [] w.past)
       → Agree (coding p) rules (call_by p (record w { past = e ∷ w.past })) (both_after p (steady p) w.frames []
       (e ∷ w.past))
-      → told_by p (record w { past = e ∷ w.past }) ≡ told_by p w ++ said_as p.clock n result
+      → carried_from p (record w { past = e ∷ w.past }) ≡ carried_from p w ++ said_as p.clock n result
   told_more w e n result notes grows says before now =
       let old = (call_by p w).said in
       let next : WayRun Frame = record w { past = e ∷ w.past } in
@@ -111,7 +112,7 @@ module _ (p : Params) (laws : SaidLaws p) where
       in
       ap (λ (l : List NumberedMessage). map (carried_as rules) l) grows
       ∙ map_more (carried_as rules) old notes
-      ∙ ap (λ (l : List Carried). told_by p w ++ l)
+      ∙ ap (λ (l : List Carried). carried_from p w ++ l)
       (read_more next old n result notes grows (after_same (map tell old) (map tell notes) (network.told_by n result)
       both))
 
@@ -123,14 +124,14 @@ longer (x ∷ xs) ys = omega (arith, longer xs ys)
 
 -- The ends have done more, and more was said of the other way.
 module _ (p q : Params) (own : PartyEnds) (w far : WayRun Frame) (h : HoldsParty p q own w far) where
-  pub headers_still : (now : WayRun Frame) (more : List Carried) → told_by q now ≡ told_by q far ++ more
-      → HasHeaders own.carried (told_by q now) w.carried
+  pub headers_still : (now : WayRun Frame) (more : List Carried) → carried_from q now ≡ carried_from q far ++ more
+      → HasHeaders own.carried (carried_from q now) w.carried
   headers_still now more grows =
       subst (λ (l : List Carried). HasHeaders own.carried l w.carried) (sym grows) (record {
         headers = h.carries.headers;
         holds = h.carries.holds;
         count = h.carries.count;
-        each = λ n. numbered_still (told_by q far) more (slice_index_or w.carried n [])
+        each = λ n. numbered_still (carried_from q far) more (slice_index_or w.carried n [])
             (slice_index_or h.carries.headers n []) (h.carries.each n);
         few = h.carries.few;
       })
@@ -140,11 +141,11 @@ module _ (p q : Params) (own : PartyEnds) (w far : WayRun Frame) (h : HoldsParty
       → new.sender.sent ≡ own.sender.sent → new.far_end.played ≤ own.sender.sent → total_of (tally_of new.way)
       ≡ new.far_end.played
       → HoldsWay p new.way new.sender new.far_end [] w.frames past → CanSend new.way new.sender
-      → told_by q now ≡ told_by q far ++ more → Waits new.waiting (drop w.loaded (told_by q far) ++ more)
+      → carried_from q now ≡ carried_from q far ++ more → Waits new.waiting (drop w.loaded (carried_from q far) ++ more)
       → HoldsParty p q new (record w { past = past }) now
   party_more new past now more params carried period sent behind counted done can grows waits =
-      let long : length (told_by q now) ≡ length (told_by q far) + length more =
-      ap (λ (l : List Carried). length l) grows ∙ longer (told_by q far) more in
+      let long : length (carried_from q now) ≡ length (carried_from q far) + length more =
+      ap (λ (l : List Carried). length l) grows ∙ longer (carried_from q far) more in
       record {
         params = params ∙ h.params;
         done = done;
@@ -155,17 +156,17 @@ module _ (p q : Params) (own : PartyEnds) (w far : WayRun Frame) (h : HoldsParty
         behind = omega (arith, behind, sent);
         counted = counted;
         kept = ap kept_by carried ∙ h.kept;
-        carries = subst (λ (ring : CarriedRing). HasHeaders ring (told_by q now) w.carried) (sym carried)
+        carries = subst (λ (ring : CarriedRing). HasHeaders ring (carried_from q now) w.carried) (sym carried)
             (headers_still now more grows);
         headers = h.headers;
         loaded = omega (arith, h.loaded, long);
         waits = subst (λ (l : List Carried). Waits new.waiting l)
-            (sym (drop_left w.loaded (told_by q far) more h.loaded)
+            (sym (drop_left w.loaded (carried_from q far) more h.loaded)
             ∙ ap (λ (l : List Carried). drop w.loaded l) (sym grows)) waits;
       }
 
   -- nothing more was said of the other way
-  pub party_same : (now : WayRun Frame) → told_by q now ≡ told_by q far → HoldsParty p q own w now
+  pub party_same : (now : WayRun Frame) → carried_from q now ≡ carried_from q far → HoldsParty p q own w now
   party_same now same = record {
     params = h.params;
     done = h.done;
@@ -183,9 +184,11 @@ module _ (p q : Params) (own : PartyEnds) (w far : WayRun Frame) (h : HoldsParty
   }
 
   -- more was said of it, and waits
-  pub party_waits : (waiting : Carrier) (now : WayRun Frame) (more : List Carried) → told_by q now ≡ told_by q far
+  pub party_waits : (waiting : Carrier) (now : WayRun Frame) (more : List Carried)
+      → carried_from q now ≡ carried_from q far
       ++ more
-      → Waits waiting (drop w.loaded (told_by q far) ++ more) → HoldsParty p q (record own { waiting = waiting }) w now
+      → Waits waiting (drop w.loaded (carried_from q far) ++ more)
+      → HoldsParty p q (record own { waiting = waiting }) w now
   party_waits waiting now more grows waits = record {
     params = h.params;
     done = h.done;
@@ -198,8 +201,8 @@ module _ (p q : Params) (own : PartyEnds) (w far : WayRun Frame) (h : HoldsParty
     kept = h.kept;
     carries = headers_still now more grows;
     headers = h.headers;
-    loaded = omega (arith, h.loaded, ap (λ (l : List Carried). length l) grows, longer (told_by q far) more);
+    loaded = omega (arith, h.loaded, ap (λ (l : List Carried). length l) grows, longer (carried_from q far) more);
     waits = subst (λ (l : List Carried). Waits waiting l)
-        (sym (drop_left w.loaded (told_by q far) more h.loaded)
+        (sym (drop_left w.loaded (carried_from q far) more h.loaded)
         ∙ ap (λ (l : List Carried). drop w.loaded l) (sym grows)) waits;
   }

@@ -18,7 +18,7 @@ use Rattle.call_model.specs.Numbers.{flags_of}
 use Rattle.call_model.specs.Sending.{message_flags}
 use Rattle.call_model.specs.TwoStores.{travelling}
 use Rattle.call_decoding.specs.Rules.{rules_of}
-use Rattle.call_encoding.specs.Messages.{as_read, marked, write_message}
+use Rattle.call_encoding.specs.Messages.{as_read, marked_message, write_message}
 use Rattle.call_encoding.specs.Frames.{Frame}
 use Rattle.coded_call.specs.Coding.{coding}
 use Rattle.reference_selector.specs.Messages.{message_of}
@@ -27,7 +27,7 @@ use Rattle.duplex_call.specs.declared.queue.Carried.{Carried}
 use Rattle.duplex_call.specs.Duplex.{WayRun}
 use Rattle.duplex_ends.specs.Bringing.{AreOfClock}
 use Rattle.duplex_ends.specs.Headers.{AreNumbered}
-use Rattle.duplex_ends.specs.Ways.{carried_as, told_by}
+use Rattle.duplex_ends.specs.Ways.{carried_as, carried_from}
 
 -- ---- flags
 
@@ -77,7 +77,7 @@ half_some Standard = omega arith
 half_some Custom = omega arith
 
 module _ (p : Params) (lawful : IsCoding (coding p) (rules_of p))
-    (again : (clock : Clock) (m : Message) → IsMessage clock m → marked (message_of m) ≡ m)
+    (again : (clock : Clock) (m : Message) → IsMessage clock m → marked_message (message_of m) ≡ m)
     (reads : (clock : Clock) (m : Message) (bytes : List ℕ) → message_in clock bytes ≡ Ok m
     → IsMessage clock m × (bits_of bytes ≡ message_text m)) where
   abbrev rules : Rules
@@ -101,15 +101,15 @@ module _ (p : Params) (lawful : IsCoding (coding p) (rules_of p))
 
   -- bytes that are read as a message of a call are read as that message with its flags as marks
   by_read : (bytes : List ℕ) (m : call.Message) (r : Result Message MessageFault) → message_in p.clock bytes ≡ r
-      → as_read r ≡ Ok m → message_in p.clock bytes ≡ Ok (marked m)
+      → as_read r ≡ Ok m → message_in p.clock bytes ≡ Ok (marked_message m)
   by_read bytes m (Ok w) at is =
       let same : message_of w ≡ m = cc is in
       at ∙ ap (λ (w : Message). let r : Result Message MessageFault = Ok w in
-      r) (sym (again p.clock w (reads p.clock w bytes at).0) ∙ ap marked same)
+      r) (sym (again p.clock w (reads p.clock w bytes at).0) ∙ ap marked_message same)
   by_read bytes m (Err fault) at is = absurd (cc is)
 
   reads_note : (note : NumberedMessage) → length (note_flags note) ≡ rules.flags
-      → message_in p.clock (write_message (travelling rules note)) ≡ Ok (marked (travelling rules note))
+      → message_in p.clock (write_message (travelling rules note)) ≡ Ok (marked_message (travelling rules note))
   reads_note note long =
       let m = travelling rules note in
       by_read (write_message m) m (message_in p.clock (write_message m)) refl
@@ -117,7 +117,7 @@ module _ (p : Params) (lawful : IsCoding (coding p) (rules_of p))
       ∙ long))
 
   fits_note : (note : NumberedMessage) → length (note_flags note) ≡ rules.flags
-      → IsMessage p.clock (marked (travelling rules note))
+      → IsMessage p.clock (marked_message (travelling rules note))
   fits_note note long = (reads p.clock _ (write_message (travelling rules note)) (reads_note note long)).0
 
   fit : (notes : List NumberedMessage) → AreFlagged rules.flags notes
@@ -126,7 +126,7 @@ module _ (p : Params) (lawful : IsCoding (coding p) (rules_of p))
   fit (note ∷ notes) are = (fits_note note are.0, fit notes are.1)
 
   -- all that was said of a way's pictures fits a header
-  pub told_fit : (w : WayRun Frame) → AreOfClock p.clock (told_by p w)
+  pub told_fit : (w : WayRun Frame) → AreOfClock p.clock (carried_from p w)
   told_fit w = fit _ (flagged (coding p) rules (steady p) w.frames w.past)
 
   -- the last of them is read from its bytes
@@ -137,7 +137,7 @@ module _ (p : Params) (lawful : IsCoding (coding p) (rules_of p))
 
   pub reads_last : (w : WayRun Frame) (notes : List NumberedMessage) (note : NumberedMessage)
       → (ideal (coding p) rules (steady p) w.frames w.past).said ≡ notes ++ note ∷ []
-      → message_in p.clock (write_message (travelling rules note)) ≡ Ok (marked (travelling rules note))
+      → message_in p.clock (write_message (travelling rules note)) ≡ Ok (marked_message (travelling rules note))
   reads_last w notes note is =
       reads_note note (last_flagged rules.flags notes note
       (subst (λ (l : List NumberedMessage). AreFlagged rules.flags l) is

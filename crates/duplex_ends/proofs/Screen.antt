@@ -5,7 +5,7 @@ use Rattle.std.specs.Option.{option_map_or}
 use Rattle.call_model.specs.Coding.{Coding, Rules, pictures_of}
 use Rattle.call_model.specs.IdealCall.{Back, Deliver, Event, Play, Send, shown_last}
 use Rattle.call_model.specs.JoinedRun.{Joined, after_bytes, joined, new_receiver}
-use Rattle.call_model.specs.Sending.{packets_of}
+use Rattle.call_model.specs.Sending.{packets_at}
 
 module _ {Frame Style Mb Picture Fault MessageFault : Type 0}
     (coding : Coding Frame Style Mb Picture Fault MessageFault) (rules : Rules) (pace : List ℕ
@@ -24,7 +24,7 @@ module _ {Frame Style Mb Picture Fault MessageFault : Type 0}
   screen_is [] = refl
   screen_is (Send ∷ past) = screen_is past
   screen_is (Deliver n j ∷ past) =
-      by_packet (both past) n (slice_get (packets_of coding.encoding rules (both past).sender.coded n) j)
+      by_packet (both past) n (slice_get (packets_at coding.encoding rules (both past).sender.coded n) j)
       (screen_is past)
   screen_is (Play ∷ past) = refl
   screen_is (Back k ∷ past) = screen_is past

@@ -4,7 +4,7 @@ use Rattle.h263_types.specs.declared.blocks.Mb.{Mb}
 use Rattle.h263_types.specs.declared.clock.Clock.{Clock}
 use Rattle.h263_types.specs.declared.params.Params.{Params}
 use Rattle.h263_planes.specs.Picture.{Picture}
-use Rattle.back_messages.specs.Said.{text_of}
+use Rattle.back_messages.specs.Said.{text_of_said}
 use Rattle.back_messages.specs.Text as back
 use Rattle.back_messages.specs.declared.message.Message.{Message}
 use Rattle.back_messages.specs.declared.message.MessageFault.{MessageFault}
@@ -14,7 +14,7 @@ use Rattle.call_model.specs.IdealCall.{Event}
 use Rattle.call_decoding.specs.Rules.{rules_of}
 use Rattle.call_decoding.specs.Styles.{Style}
 use Rattle.call_encoding.specs.Frames.{Frame}
-use Rattle.call_encoding.specs.Messages.{written}
+use Rattle.call_encoding.specs.Messages.{written_message}
 use Rattle.receiver_end.specs.declared.kept.Kept.{Kept}
 use Rattle.duplex_call.specs.declared.queue.Carried.{Carried}
 use Rattle.duplex_call.specs.Duplex.{brought}
@@ -31,7 +31,7 @@ read_as n (Err fault) = []
 
 abbrev pub said_as : Clock → ℕ → Option Said → List Carried
 said_as clock n None = []
-said_as clock n (Some said) = read_as n (back.message_in clock (text_of said))
+said_as clock n (Some said) = read_as n (back.message_in clock (text_of_said said))
 
 -- the messages in some places
 abbrev pub carried_in : List (Option Carried) → List Carried
@@ -39,8 +39,8 @@ carried_in [] = []
 carried_in (None ∷ places) = carried_in places
 carried_in (Some m ∷ places) = m ∷ carried_in places
 
-abbrev pub message_in : Carried → Message
-message_in m = m.message
+abbrev pub carried_message : Carried → Message
+carried_message m = m.message
 
 -- all of them are messages of this clock
 abbrev pub AreOfClock : Clock → List Carried → Type 0
@@ -53,7 +53,7 @@ pub record MayReturn (p : Params) (both : Joined Style Mb Picture) (k : ℕ)
     (m : Carried) : Type 0 where
   pub told : SaidMessage
   pub is : slice_get both.said k ≡ Some told
-  pub bytes : told.bytes ≡ written m.message
+  pub bytes : told.bytes ≡ written_message m.message
   pub near : length both.sender.coded < told.about + (rules_of p).half
 
 abbrev pub MayReturnAll : Params → Joined Style Mb Picture → List ℕ → List Carried → Type 0

@@ -2,7 +2,7 @@
 use Rattle.std.specs.Prelude.{◌≡◌, ℕ, ◌-◌, ◌≤◌, ⊤, List, [], ◌∷◌, length, map, slice_get, slice_index_or, Some}
 use Rattle.circular_buffer.specs.Buffer.{keep_last}
 use Rattle.duplex_call.specs.declared.queue.Carried.{Carried}
-use Rattle.duplex_call.specs.Waiting.{placed}
+use Rattle.duplex_call.specs.Waiting.{in_four_places}
 use Rattle.duplex_ends.specs.declared.headers.CarriedRing.{CarriedRing}
 
 -- how many pictures a ring keeps
@@ -12,7 +12,7 @@ kept_by ring = ring.kept.capacity
 -- these are the messages of all headers so far, and those of the last ones are kept, in places
 pub record HoldsHeaders (ring : CarriedRing) (headers : List (List Carried)) : Type 0 where
   pub newest : ring.newest ≡ length headers - 1
-  pub last : ring.kept.items ≡ keep_last (kept_by ring) (map placed headers)
+  pub last : ring.kept.items ≡ keep_last (kept_by ring) (map in_four_places headers)
 
 -- the messages of one header have these numbers among those that were said
 abbrev pub AreNumbered : List Carried → List ℕ → List Carried → Type 0

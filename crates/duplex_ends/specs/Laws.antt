@@ -7,14 +7,14 @@ use Rattle.back_messages.specs.Text.{message_in}
 use Rattle.call_model.specs.IdealCall.{NumberedMessage}
 use Rattle.call_model.specs.TwoStores.{travelling}
 use Rattle.call_decoding.specs.Rules.{rules_of}
-use Rattle.call_encoding.specs.Messages.{marked, write_message}
+use Rattle.call_encoding.specs.Messages.{marked_message, write_message}
 use Rattle.duplex_call.specs.declared.line.Party.{Party}
 use Rattle.duplex_call.specs.Duplex.{WayRun, WayRuns, no_runs, other, with_play}
 use Rattle.duplex_ends.specs.declared.party.PartyEnds.{PartyEnds}
 use Rattle.duplex_ends.specs.Bringing.{AreOfClock}
 use Rattle.duplex_ends.specs.Pair.{HoldsPair, IsNewParty}
 use Rattle.duplex_ends.specs.Shown.{shown_next}
-use Rattle.duplex_ends.specs.Ways.{call_by, call_in, sides, told_by}
+use Rattle.duplex_ends.specs.Ways.{call_by, call_in, sides, carried_from}
 
 pub record PairLaws (p : Party → Params) : Type 0 where
   -- new ends have done nothing
@@ -33,12 +33,12 @@ pub record PairLaws (p : Party → Params) : Type 0 where
 -- what the receiver of a way's pictures says
 pub record SaidLaws (p : Params) : Type 0 where
   -- it fits a picture header
-  pub fit : (w : WayRun Frame) → AreOfClock p.clock (told_by p w)
+  pub fit : (w : WayRun Frame) → AreOfClock p.clock (carried_from p w)
   -- the last message is read from its bytes
   pub read : (w : WayRun Frame) (notes : List NumberedMessage) (note : NumberedMessage)
       → (call_by p w).said ≡ notes ++ note ∷ []
       → message_in p.clock (write_message (travelling (rules_of p) note))
-      ≡ Ok (marked (travelling (rules_of p) note))
+      ≡ Ok (marked_message (travelling (rules_of p) note))
 
 -- what a play leaves of the ideal call of its party's pictures
 pub record AfterPlay (p : Party → Params) (x : Party) (ways : WayRuns Frame) : Type 0 where

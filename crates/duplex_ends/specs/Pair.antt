@@ -15,7 +15,7 @@ use Rattle.one_way.specs.Counts.{total_of}
 use Rattle.one_way.specs.Way.{CanSend, HoldsWay, IsNewWay, kept_in, tally_of}
 use Rattle.duplex_ends.specs.declared.party.PartyEnds.{PartyEnds}
 use Rattle.duplex_ends.specs.Headers.{HasHeaders, HoldsHeaders, kept_by}
-use Rattle.duplex_ends.specs.Ways.{sides, told_by}
+use Rattle.duplex_ends.specs.Ways.{sides, carried_from}
 
 -- The ends of one party's pictures, which have these parameters, have done what its way says. The
 -- headers carry what was said of the other way, whose pictures have those parameters, and what was
@@ -30,10 +30,10 @@ pub record HoldsParty (p q : Params) (own : PartyEnds) (w far : WayRun Frame) : 
   pub behind : own.far_end.played ≤ own.sender.sent
   pub counted : total_of (tally_of own.way) ≡ own.far_end.played
   pub kept : kept_by own.carried ≡ clocks.period_of p.clock
-  pub carries : HasHeaders own.carried (told_by q far) w.carried
+  pub carries : HasHeaders own.carried (carried_from q far) w.carried
   pub headers : length w.carried ≡ length w.frames
-  pub loaded : w.loaded ≤ length (told_by q far)
-  pub waits : Waits own.waiting (drop w.loaded (told_by q far))
+  pub loaded : w.loaded ≤ length (carried_from q far)
+  pub waits : Waits own.waiting (drop w.loaded (carried_from q far))
 
 -- The ends of both parties have done what both ways say: the first ones are those of this party's
 -- pictures.
@@ -57,7 +57,7 @@ pub record IsInCall (own : PartyEnds) : Type 0 where
   pub both : AreInCall own far
 
 -- and an event of the first party's pictures may happen there
-pub record MayHappenNow (own far : PartyEnds) (e : Event) : Type 0 where
+pub record MayHappenToParty (own far : PartyEnds) (e : Event) : Type 0 where
   pub params : Party → Params
   pub party : Party
   pub ways : WayRuns Frame
@@ -68,7 +68,7 @@ pub record MayHappenNow (own far : PartyEnds) (e : Event) : Type 0 where
 -- so it may, for some ends of the other party
 pub record MayHappenToOne (own : PartyEnds) (e : Event) : Type 0 where
   pub far : PartyEnds
-  pub now : MayHappenNow own far e
+  pub now : MayHappenToParty own far e
 
 -- ---- before the first event
 
@@ -79,7 +79,7 @@ pub record IsNewParty (p : Params) (own : PartyEnds) : Type 0 where
   pub quant : own.sender.pace.quant ≡ p.quant
   pub sent : own.sender.sent ≡ 0
   pub played : own.far_end.played ≡ 0
-  pub sends : sender_end.Stands (steady p) own.sender []
+  pub sends : sender_end.PacedStands (steady p) own.sender []
   pub receives : receiver_end.Stands own.far_end []
   pub way_is : IsNewWay p (clocks.period_of p.clock) own.way
   pub kept : kept_by own.carried ≡ clocks.period_of p.clock

@@ -11,7 +11,7 @@ use Rattle.call_model.specs.TwoStores.{travelling}
 use Rattle.call_decoding.specs.Rules.{rules_of}
 use Rattle.call_decoding.specs.Styles.{Style}
 use Rattle.call_encoding.specs.Frames.{Frame}
-use Rattle.call_encoding.specs.Messages.{marked}
+use Rattle.call_encoding.specs.Messages.{marked_message}
 use Rattle.coded_call.specs.Coding.{coding}
 use Rattle.duplex_call.specs.declared.queue.Carried.{Carried}
 use Rattle.duplex_call.specs.declared.line.Party.{Party}
@@ -25,7 +25,7 @@ side_of p = record {
   coding = coding p;
   rules = rules_of p;
   pace = steady p;
-  carrying = λ picture messages. carrying picture (map marked messages);
+  carrying = λ picture messages. carrying picture (map marked_message messages);
 }
 
 -- those of both parties
@@ -42,11 +42,11 @@ call_in p x ways = call_by (p x) (way x ways)
 
 -- a message as it waits for a picture header: with the number of the picture that it is about
 abbrev pub carried_as : Rules → NumberedMessage → Carried
-carried_as rules note = record { about = about note; message = marked (travelling rules note) }
+carried_as rules note = record { about = about note; message = marked_message (travelling rules note) }
 
 -- all messages that the receiver of the pictures of one way has said, oldest first
-abbrev pub told_by : Params → WayRun Frame → List Carried
-told_by p w = map (carried_as (rules_of p)) (call_by p w).said
+abbrev pub carried_from : Params → WayRun Frame → List Carried
+carried_from p w = map (carried_as (rules_of p)) (call_by p w).said
 
 -- the packets of the party's picture n at the places below this one are delivered, in their order
 abbrev pub with_places : (Party → Params) → Party → ℕ → ℕ → WayRuns Frame → WayRuns Frame

@@ -8,7 +8,7 @@ ghost use Rattle.duplex_call.specs.declared.line.Party.{Party};
 ghost use Rattle.duplex_call.specs.Duplex.{WayRuns};
 ghost use Rattle.duplex_call.specs.Refused.{refusal_of};
 ghost use Rattle.duplex_ends.specs.Bringing.{carried_in, first_far};
-ghost use Rattle.duplex_ends.specs.Pair.{AreInCall, HoldsPair, IsInCall, MayHappenNow};
+ghost use Rattle.duplex_ends.specs.Pair.{AreInCall, HoldsPair, IsInCall, MayHappenToParty};
 ghost use Rattle.duplex_ends.specs.Ways.{call_in, sides};
 
 use crate::{PartyEnds, laws};
@@ -20,7 +20,7 @@ use one_way::{EventRefusal, check_capture, check_packet, is_late, laws as one_wa
 pub fn check_send(own: &PartyEnds) -> Result<(), EventRefusal>
     requires { IsInCall own.now }
     ensures may { (far : PartyEnds) → AreInCall own.now far
-        → OnOk result (MayHappenNow own.now far Send) }
+        → OnOk result (MayHappenToParty own.now far Send) }
     ensures refusal { (p : Party → Params) (x : Party) (far : PartyEnds) (ways : WayRuns Frame)
         → HoldsPair p x own.now far ways → IsAllowed result Send
         (refusal_of (sides p) (length (call_in p x ways).coded + 1) x Send ways) }
@@ -59,7 +59,7 @@ fn check_header(half: u32, sent: u32, header: &[Option<Carried>; 4]) -> Result<(
 pub fn check_delivery(own: &PartyEnds, far: &PartyEnds, number: u32) -> Result<(), EventRefusal>
     requires { AreInCall own.now far.now }
     ensures may { (place : ℕ) → OnOk result
-        (MayHappenNow own.now far.now (Deliver number place)) }
+        (MayHappenToParty own.now far.now (Deliver number place)) }
     ensures refusal { (p : Party → Params) (x : Party) (ways : WayRuns Frame) (left place : ℕ)
         → HoldsPair p x own.now far.now ways → IsAllowed result (Deliver number place)
         (refusal_of (sides p) left x (Deliver number place) ways) }
@@ -81,7 +81,7 @@ pub fn check_play(own: &PartyEnds) -> Result<(), EventRefusal>
     requires { IsInCall own.now }
     ensures ahead { OnOk result (own.now.far_end.played < own.now.sender.sent) }
     ensures may { (far : PartyEnds) → AreInCall own.now far
-        → OnOk result (MayHappenNow own.now far Play) }
+        → OnOk result (MayHappenToParty own.now far Play) }
     ensures refusal { (p : Party → Params) (x : Party) (far : PartyEnds) (ways : WayRuns Frame)
         (left : ℕ) → HoldsPair p x own.now far ways
         → IsAllowed result Play (refusal_of (sides p) left x Play ways) }

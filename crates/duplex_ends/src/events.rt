@@ -4,13 +4,13 @@ ghost use Rattle.std.specs.Prelude.{◌≡◌, ◌+◌, ℕ, []};
 ghost use Rattle.h263_types.specs.declared.params.Params.{Params};
 ghost use Rattle.call_model.specs.IdealCall.{Deliver, Play};
 ghost use Rattle.call_encoding.specs.Frames.{Frame};
-ghost use Rattle.receiver_end.specs.Answers.{mark_of};
+ghost use Rattle.receiver_end.specs.Answers.{mark_from};
 ghost use Rattle.duplex_call.specs.declared.line.Party.{Party};
 ghost use Rattle.duplex_call.specs.Duplex.{MayHappenOf, WayRuns, brings, brought, other, way};
 ghost use Rattle.duplex_call.specs.Duplex.{with_delivery, with_play};
 ghost use Rattle.one_way.specs.Way.{CanSend, HoldsWay};
 ghost use Rattle.duplex_ends.specs.Keeping.{KeepsInDelivery, KeepsInPlay};
-ghost use Rattle.duplex_ends.specs.Pair.{AreInCall, HoldsPair, MayHappenNow, MayHappenToOne};
+ghost use Rattle.duplex_ends.specs.Pair.{AreInCall, HoldsPair, MayHappenToParty, MayHappenToOne};
 ghost use Rattle.duplex_ends.specs.Shown.{shown_next};
 ghost use Rattle.duplex_ends.specs.Ways.{sides, with_whole};
 ghost use Rattle.one_way.specs.declared.way.Way.{Way};
@@ -52,7 +52,7 @@ fn bring_carried(own: &PartyEnds, sender: &mut Sender<FixedPace>, number: u32, p
 /// Delivers the packet at a place of a picture, if there is one, and the messages of the picture's
 /// header with it.
 pub fn deliver(own: &mut PartyEnds, far: &mut PartyEnds, number: u32, place: u32)
-    requires { MayHappenNow own.old far.old (Deliver number place) }
+    requires { MayHappenToParty own.old far.old (Deliver number place) }
     ensures ready { AreInCall own.new far.new }
     ensures keeps { KeepsInDelivery own.old far.old own.new far.new }
     ensures holds { (p : Party → Params) (x : Party) (ways : WayRuns Frame) (left : ℕ)
@@ -70,7 +70,7 @@ pub fn deliver(own: &mut PartyEnds, far: &mut PartyEnds, number: u32, place: u32
 
 /// Delivers all packets of a picture in their order.
 pub fn deliver_all(own: &mut PartyEnds, far: &mut PartyEnds, number: u32)
-    requires { MayHappenNow own.old far.old (Deliver number 0) }
+    requires { MayHappenToParty own.old far.old (Deliver number 0) }
     ensures ready { AreInCall own.new far.new }
     ensures keeps { KeepsInDelivery own.old far.old own.new far.new }
     ensures holds { (p : Party → Params) (x : Party) (ways : WayRuns Frame) (left : ℕ)
@@ -89,14 +89,14 @@ pub fn deliver_all(own: &mut PartyEnds, far: &mut PartyEnds, number: u32)
 /// Plays the next picture, and answers it with its mark. What is said of it waits with the other
 /// party.
 pub fn play(own: &mut PartyEnds, far: &mut PartyEnds) -> Played
-    requires { MayHappenNow own.old far.old Play }
+    requires { MayHappenToParty own.old far.old Play }
     ensures ready { AreInCall own.new far.new }
     ensures keeps { KeepsInPlay own.old far.old own.new far.new }
     ensures played { own.new.far_end.played ≡ own.old.far_end.played + 1 }
     ensures number { result.number ≡ own.old.far_end.played }
     ensures mark { (p : Party → Params) (x : Party) (ways : WayRuns Frame) (left : ℕ)
         → HoldsPair p x own.old far.old ways → MayHappenOf (sides p) left x Play ways
-        → result.mark ≡ mark_of (shown_next p x ways).mark }
+        → result.mark ≡ mark_from (shown_next p x ways).mark }
     ensures holds { (p : Party → Params) (x : Party) (ways : WayRuns Frame) (left : ℕ)
         → HoldsPair p x own.old far.old ways → MayHappenOf (sides p) left x Play ways
         → HoldsPair p x own.new far.new (with_play (sides p) x ways) }

@@ -2,7 +2,7 @@
 ghost use Rattle.std.specs.Prelude.{◌≡◌, ◌+◌, ◌<◌, ◌≤◌, ◌∷◌, ◌++◌, [], List, length};
 ghost use Rattle.std.specs.Prelude.{IfOk, slice_index_or};
 ghost use Rattle.duplex_call.specs.declared.queue.Carried.{Carried};
-ghost use Rattle.duplex_call.specs.Waiting.{placed};
+ghost use Rattle.duplex_call.specs.Waiting.{in_four_places};
 
 use circular_buffer::HeapCircularBuffer;
 use duplex_call::Carried;
@@ -37,7 +37,7 @@ impl CarriedRing {
         ensures kept { kept_by self.new ≡ kept_by self.old }
         ensures holds { (headers : List (List Carried)) (messages : List Carried)
             → HoldsHeaders self.old headers → number ≡ length headers
-            → carried ≡ placed messages
+            → carried ≡ in_four_places messages
             → HoldsHeaders self.new (headers ++ messages ∷ []) }
     {
         let _oldest = self.kept.push_back(carried);
@@ -48,7 +48,7 @@ impl CarriedRing {
     pub fn get(&self, number: u32) -> [Option<Carried>; 4]
         ensures { (headers : List (List Carried)) → HoldsHeaders self.now headers
             → number < length headers → length headers ≤ number + kept_by self.now
-            → result ≡ placed (slice_index_or headers number []) }
+            → result ≡ in_four_places (slice_index_or headers number []) }
     {
         let since = self.newest.saturating_sub(number);
         match self.kept.nth_back(since as usize) {

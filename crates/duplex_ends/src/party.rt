@@ -43,7 +43,7 @@ pub struct PartyEnds {
 impl PartyEnds {
     ghost use Rattle.duplex_ends.specs.declared.party.PartyEnds.{PartyEnds};
     ghost use Rattle.duplex_ends.specs.Pair.{AreInCall, HoldsPair, IsInCall, IsNewParty};
-    ghost use Rattle.duplex_ends.specs.Pair.{MayHappenNow};
+    ghost use Rattle.duplex_ends.specs.Pair.{MayHappenToParty};
     ghost use Rattle.duplex_ends.specs.Shown.{on_screen};
     ghost use Rattle.duplex_ends.specs.Ways.{call_in, sides};
 
@@ -81,7 +81,7 @@ impl PartyEnds {
         requires held { IsInCall self.old }
         requires frame { (lent frame).format ≡ self.old.params.format }
         requires left { self.old.sender.sent < 1048576 }
-        ensures ready { (far : PartyEnds) → MayHappenNow self.old far Send
+        ensures ready { (far : PartyEnds) → MayHappenToParty self.old far Send
             → AreInCall self.new far }
         ensures params { self.new.params ≡ self.old.params }
         ensures sent { self.new.sender.sent ≡ self.old.sender.sent + 1 }

@@ -30,25 +30,25 @@ abbrev pub entry_with : Side → ℕ → ℕ → Option Entry
 entry_with side letter len = if has_letter side letter then entry_of letter len else None
 
 -- how many bytes an entry has after its letter and their number
-abbrev pub bytes_of : Entry → ℕ
-bytes_of Capture = 0
-bytes_of (Back len) = len
-bytes_of (Packet len) = len
-bytes_of Play = 0
+abbrev pub entry_size : Entry → ℕ
+entry_size Capture = 0
+entry_size (Back len) = len
+entry_size (Packet len) = len
+entry_size Play = 0
 
 -- the entry that the first three bytes begin: its letter, and the number of its bytes
-abbrev pub begun : Side → List ℕ → Option Entry
-begun side bytes =
+abbrev pub entry_begun : Side → List ℕ → Option Entry
+entry_begun side bytes =
     if nat_lt (length bytes) 3 then None else entry_with side (slice_index bytes 0) (big_number 2 (drop 1 bytes))
 
 -- how far an entry reaches that begins here; three bytes, where none begins
-abbrev pub reach_of : Option Entry → ℕ
-reach_of None = 3
-reach_of (Some entry) = 3 + bytes_of entry
+abbrev pub entry_reach : Option Entry → ℕ
+entry_reach None = 3
+entry_reach (Some entry) = 3 + entry_size entry
 
 abbrev pub reach : Side → List ℕ → ℕ
-reach side bytes = reach_of (begun side bytes)
+reach side bytes = entry_reach (entry_begun side bytes)
 
 -- the entry that stands first in these bytes, whole
 abbrev pub entry_in : Side → List ℕ → Option Entry
-entry_in side bytes = if nat_lt (length bytes) (reach side bytes) then None else begun side bytes
+entry_in side bytes = if nat_lt (length bytes) (reach side bytes) then None else entry_begun side bytes

@@ -3,21 +3,21 @@ use Rattle.std.specs.Prelude.{ℕ, ◌≡◌, ◌+◌, ◌<◌, ◌≤◌, List,
 use Rattle.event_logs.specs.declared.entry.Entry.{Entry}
 use Rattle.event_logs.specs.declared.fault.LogStop.{LogStop}
 use Rattle.event_logs.specs.declared.fault.LogStop.TheVariants.{Read, BadRecord, TooMany}
-use Rattle.event_logs.specs.Entry.{bytes_of, reach, entry_in}
+use Rattle.event_logs.specs.Entry.{entry_size, reach, entry_in}
 use Rattle.event_logs.specs.Place.{LogPlace}
 
 -- how a call moves a reader, by its places before and after, and which byte it gives: where the
 -- next entry begins
-abbrev pub Moves : Result (Option (ℕ × Entry)) LogStop → LogPlace → LogPlace → Type 0
-Moves (Ok (Some found)) old new = (found.0 ≡ old.at) × (new.side ≡ old.side)
-    × (new.entries ≡ old.entries + 1) × (new.at ≡ old.at + (3 + bytes_of found.1))
-Moves (Ok None) old new = new ≡ old
-Moves (Err Read) old new = new ≡ old
-Moves (Err (BadRecord at)) old new = (old.entries < 16777216) × (at ≡ old.at) × (new ≡ old)
-Moves (Err (TooMany at)) old new = (old.entries ≡ 16777216) × (at ≡ old.at) × (new ≡ old)
+abbrev pub MovesLog : Result (Option (ℕ × Entry)) LogStop → LogPlace → LogPlace → Type 0
+MovesLog (Ok (Some found)) old new = (found.0 ≡ old.at) × (new.side ≡ old.side)
+    × (new.entries ≡ old.entries + 1) × (new.at ≡ old.at + (3 + entry_size found.1))
+MovesLog (Ok None) old new = new ≡ old
+MovesLog (Err Read) old new = new ≡ old
+MovesLog (Err (BadRecord at)) old new = (old.entries < 16777216) × (at ≡ old.at) × (new ≡ old)
+MovesLog (Err (TooMany at)) old new = (old.entries ≡ 16777216) × (at ≡ old.at) × (new ≡ old)
 
 -- what was taken when a read failed has no whole entry
-pub record IsCut (place : LogPlace) (rest : List ℕ) (left : Option (List ℕ)) : Type 0 where
+pub record IsLogCut (place : LogPlace) (rest : List ℕ) (left : Option (List ℕ)) : Type 0 where
   pub taken : ℕ
   pub within : taken ≤ length rest
   pub gone : left ≡ Some (drop taken rest)
@@ -28,10 +28,10 @@ pub record IsCut (place : LogPlace) (rest : List ℕ) (left : Option (List ℕ))
 abbrev pub EntryGives : Result (Option (ℕ × Entry)) LogStop → LogPlace → List ℕ → List ℕ → Option (List ℕ) → Type 0
 EntryGives (Ok (Some found)) old rest buf left =
     (entry_in old.side rest ≡ Some found.1)
-    × (take (bytes_of found.1) buf ≡ take (bytes_of found.1) (drop 3 rest))
-    × (left ≡ Some (drop (3 + bytes_of found.1) rest))
+    × (take (entry_size found.1) buf ≡ take (entry_size found.1) (drop 3 rest))
+    × (left ≡ Some (drop (3 + entry_size found.1) rest))
 EntryGives (Ok None) old rest buf left = (rest ≡ []) × (left ≡ Some [])
-EntryGives (Err Read) old rest buf left = IsCut old rest left
+EntryGives (Err Read) old rest buf left = IsLogCut old rest left
 EntryGives (Err (BadRecord at)) old rest buf left = (0 < length rest)
     × (entry_in old.side rest ≡ None) × (left ≡ Some (drop (reach old.side rest) rest))
 EntryGives (Err (TooMany at)) old rest buf left = (0 < length rest) × (left ≡ Some (drop 3 rest))

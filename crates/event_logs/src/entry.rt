@@ -1,6 +1,6 @@
 //! The entries of a log, and which of them each end meets.
 ghost use Rattle.std.specs.Prelude.{◌≡◌, ◌≤◌, length, IfSome};
-ghost use Rattle.event_logs.specs.Entry.{letters_of, has_letter, entry_of, entry_with, bytes_of, begun};
+ghost use Rattle.event_logs.specs.Entry.{letters_of, has_letter, entry_of, entry_with, entry_size, entry_begun};
 
 use byteorder::{BigEndian, ByteOrder};
 
@@ -45,7 +45,7 @@ fn letters_of(side: Side) -> &'static [u8]
 // What an entry says by its letter and the number of its bytes.
 fn entry_of(letter: u8, len: u16) -> Option<Entry>
     ensures is { result ≡ entry_of letter len }
-    ensures within { IfSome result (λ entry. bytes_of entry ≤ 65535) }
+    ensures within { IfSome result (λ entry. entry_size entry ≤ 65535) }
 {
     let len = len as u32;
     match letter {
@@ -59,8 +59,8 @@ fn entry_of(letter: u8, len: u16) -> Option<Entry>
 
 /// The entry of a side's log that the first three bytes begin.
 pub fn begun(side: Side, head: &[u8]) -> Option<Entry>
-    ensures is { result ≡ begun side head.now }
-    ensures within { IfSome result (λ entry. bytes_of entry ≤ 65535) }
+    ensures is { result ≡ entry_begun side head.now }
+    ensures within { IfSome result (λ entry. entry_size entry ≤ 65535) }
 {
     if head.len() < HEAD || !letters_of(side).contains(&head[0]) {
         return None;
@@ -70,7 +70,7 @@ pub fn begun(side: Side, head: &[u8]) -> Option<Entry>
 
 /// How many bytes an entry has after its head.
 pub fn bytes_of(entry: Entry) -> u32
-    ensures { result ≡ bytes_of entry }
+    ensures { result ≡ entry_size entry }
 {
     match entry {
         Entry::Capture | Entry::Play => 0,

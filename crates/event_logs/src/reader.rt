@@ -35,9 +35,9 @@ impl LogReader {
     ghost use Rattle.h263_outside.specs.Desk.{Rose, OnlyReads};
     ghost use Rattle.h263_outside.specs.declared.desk.Role.{Role};
     ghost use Rattle.h263_outside.specs.declared.desk.Role.TheVariants.{Events};
-    ghost use Rattle.event_logs.specs.Entry.{bytes_of};
+    ghost use Rattle.event_logs.specs.Entry.{entry_size};
     ghost use Rattle.event_logs.specs.Place.{IsInLog};
-    ghost use Rattle.event_logs.specs.Reader.{Moves, EntryGives};
+    ghost use Rattle.event_logs.specs.Reader.{MovesLog, EntryGives};
 
     /// A reader before the first entry.
     pub fn new(side: Side) -> LogReader
@@ -63,7 +63,7 @@ impl LogReader {
         requires room { 65535 ≤ length buf.old }
         ensures gives { (rest : List ℕ) → (D.outside desk.old).left Events ≡ Some rest
             → EntryGives result self.old rest buf.new ((D.outside desk.new).left Events) }
-        ensures moves { Moves result self.old self.new }
+        ensures moves { MovesLog result self.old self.new }
         ensures was_in { IsInLog self.old }
         ensures is_in { IsInLog self.new }
         ensures cause { IsErrOf result LogStop.Read
@@ -96,10 +96,10 @@ impl LogReader {
     // Goes on after an entry.
     fn pass(&mut self, entry: Entry)
         requires few { self.old.entries < 16777216 }
-        requires size { bytes_of entry ≤ 65535 }
+        requires size { entry_size entry ≤ 65535 }
         ensures side { self.new.side ≡ self.old.side }
         ensures entries { self.new.entries ≡ self.old.entries + 1 }
-        ensures at { self.new.at ≡ self.old.at + (3 + bytes_of entry) }
+        ensures at { self.new.at ≡ self.old.at + (3 + entry_size entry) }
     {
         self.entries += 1;
         self.at += HEAD as u64 + bytes_of(entry) as u64;

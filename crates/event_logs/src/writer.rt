@@ -2,7 +2,7 @@
 ghost use Rattle.std.specs.Prelude.{◌≡◌, ◌≤◌, length, true, OnOk, OnErr};
 ghost use Rattle.h263_outside.specs.Desk.{appended, GainsFront, Rose, OnlyWrites};
 ghost use Rattle.h263_outside.specs.declared.desk.Role.TheVariants.{Wire};
-ghost use Rattle.event_logs.specs.Text.{head_text, entry_text};
+ghost use Rattle.event_logs.specs.Text.{entry_head_text, entry_text};
 
 use crate::entry::HEAD;
 use byteorder::{BigEndian, ByteOrder};
@@ -10,7 +10,7 @@ use h263_outside::{Desk, Failed, Role, laws as outside_laws, write_all};
 
 // What stands before the bytes of an entry.
 fn head_of(letter: u8, len: u16) -> [u8; HEAD]
-    ensures { result ≡ head_text letter len }
+    ensures { result ≡ entry_head_text letter len }
 {
     let mut head = [letter, 0, 0];
     BigEndian::write_u16(&mut head[1..], len);

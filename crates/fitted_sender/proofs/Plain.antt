@@ -10,12 +10,12 @@ use Rattle.call_encoding.specs.Encoding.{encoding}
 use Rattle.call_encoding.specs.Frames.{Frame}
 use Rattle.sender_end.specs.Stands as senders
 use Rattle.rate_control.specs.Pace.{pace_of}
-use Rattle.fitted_sender.specs.Aiming.{PlainIsSenderRun, Sent, after_heard, after_sent, plain_aim}
+use Rattle.fitted_sender.specs.Aiming.{PlainIsSenderRun, Sent, sent_after_heard, after_sent, plain_aim}
 
 -- after one more frame, with these pictures known
 abbrev with_known : Params → Option ℕ → Frame → List (SenderEntry Frame) → List ℕ → Sent
 with_known p target frame entries known =
-    let run = senders.run_of p (pace_of target p) entries in
+    let run = senders.entries_run p (pace_of target p) entries in
     record {
       run = record {
         run = record run {
@@ -32,6 +32,6 @@ plain_is_run nothing p target [] = refl
 plain_is_run nothing p target (call.Capture frame ∷ entries) =
     ap (after_sent p frame) (plain_is_run nothing p target entries)
     ∙ ap (λ (known : List ℕ). with_known p target frame entries known)
-    (nothing (senders.run_of p (pace_of target p) entries).known)
-plain_is_run nothing p target (call.Feedback bytes ∷ entries) = ap (after_heard p bytes)
+    (nothing (senders.entries_run p (pace_of target p) entries).known)
+plain_is_run nothing p target (call.Feedback bytes ∷ entries) = ap (sent_after_heard p bytes)
     (plain_is_run nothing p target entries)

@@ -7,7 +7,7 @@ use Rattle.h263_types.specs.declared.params.Params.{Params}
 use Rattle.h263_types.specs.declared.blocks.Mb.{Mb}
 use Rattle.h263_planes.specs.Picture.{Picture}
 use Rattle.call_model.specs.CodedPictures.{Coded}
-use Rattle.call_model.specs.Sending.{SenderEntry, Capture, Feedback, bytes_in}
+use Rattle.call_model.specs.Sending.{SenderEntry, Capture, Feedback, bytes_together}
 use Rattle.call_model.specs.Steering.{nothing_done}
 use Rattle.call_decoding.specs.Styles.{Style}
 use Rattle.call_encoding.specs.Frames.{Frame}
@@ -15,18 +15,18 @@ use Rattle.rate_control.specs.Pace.{pace_of, quant_after_sizes}
 use Rattle.picture_pace.specs.declared.fit.FitPace.{FitPace}
 use Rattle.picture_pace.specs.Fitting.{after_coded, fitting_quant, pace_at_start, redirected}
 use Rattle.sender_end.specs.Known.{known_in}
-use Rattle.sender_end.specs.Stands.{Run, after_code, after_message, next_in, packets_after, run_of}
+use Rattle.sender_end.specs.Stands.{SentRun, after_code, after_message, next_in, packets_after, entries_run}
 use Rattle.fitted_sender.specs.declared.aim.Aim.{Aim}
 
 -- ---- what the quantisers follow
 
 -- a pace that fits has room for so many times its target
-abbrev pub room_of : ℕ → ℕ
-room_of target = 30 * target
+abbrev pub room_for_target : ℕ → ℕ
+room_for_target target = 30 * target
 
 abbrev pub fit_at_start : Format → Option ℕ → Option FitPace
 fit_at_start f None = None
-fit_at_start f (Some target) = Some (pace_at_start f target (room_of target))
+fit_at_start f (Some target) = Some (pace_at_start f target (room_for_target target))
 
 -- before the first picture
 abbrev pub first_aim : Params → Option ℕ → Option ℕ → Aim
@@ -38,8 +38,8 @@ fixed quant = record { quant = quant; target = None; fit = None }
 
 -- a pace keeps what it was told where it gets another target
 abbrev pub aimed_at : Format → ℕ → Option FitPace → FitPace
-aimed_at f target None = pace_at_start f target (room_of target)
-aimed_at f target (Some pace) = redirected target (room_of target) pace
+aimed_at f target None = pace_at_start f target (room_for_target target)
+aimed_at f target (Some pace) = redirected target (room_for_target target) pace
 
 abbrev pub fit_at : Format → Option ℕ → Option FitPace → Option FitPace
 fit_at f None fit = None
@@ -64,7 +64,7 @@ first_by quant kind (Some pace) = fitting_quant kind pace
 
 -- the bytes of a picture, as they are counted
 abbrev pub counted_bytes : List (List ℕ) → ℕ
-counted_bytes packets = min (bytes_in packets) 4294967295
+counted_bytes packets = min (bytes_together packets) 4294967295
 
 -- it is told of each picture
 abbrev pub fit_after : Kind → ℕ → Option FitPace → Option FitPace
@@ -78,11 +78,11 @@ aim_after kind bytes a = record a { fit = fit_after kind bytes a.fit }
 
 -- what it has done, and what its next quantiser follows
 pub record Sent : Type 0 where
-  pub run : Run
+  pub run : SentRun
   pub aim : Aim
 
 module _ (p : Params) where
-  abbrev pub next_kind : Run → Kind
+  abbrev pub next_kind : SentRun → Kind
   next_kind run = kind_by (known_in p run)
 
   -- the quantiser after pictures of these sizes
@@ -101,14 +101,14 @@ module _ (p : Params) where
       record { run = run; aim = aim_after (next_kind s.run) (counted_bytes (packets_after p run)) s.aim }
 
   -- the bytes of a message come back
-  abbrev pub after_heard : List ℕ → Sent → Sent
-  after_heard bytes s = record { run = after_message p bytes s.run; aim = s.aim }
+  abbrev pub sent_after_heard : List ℕ → Sent → Sent
+  sent_after_heard bytes s = record { run = after_message p bytes s.run; aim = s.aim }
 
   -- after these entries, the newest first
   abbrev pub sent_by : Aim → List (SenderEntry Frame) → Sent
   sent_by aim [] = record { run = nothing_done; aim = aim }
   sent_by aim (Capture frame ∷ past) = after_sent frame (sent_by aim past)
-  sent_by aim (Feedback bytes ∷ past) = after_heard bytes (sent_by aim past)
+  sent_by aim (Feedback bytes ∷ past) = sent_after_heard bytes (sent_by aim past)
 
 -- ---- without a pace that fits
 
@@ -120,4 +120,4 @@ plain_aim p target = record { quant = p.quant; target = target; fit = None }
 abbrev pub PlainIsSenderRun : Type 0
 PlainIsSenderRun = (p : Params) (target : Option ℕ) (entries : List (SenderEntry Frame)) →
     sent_by p (plain_aim p target) entries
-    ≡ record { run = record { run = run_of p (pace_of target p) entries; since = 0 }; aim = plain_aim p target }
+    ≡ record { run = record { run = entries_run p (pace_of target p) entries; since = 0 }; aim = plain_aim p target }

@@ -1,7 +1,7 @@
 //! What the quantisers of a sender follow.
 ghost use Rattle.std.specs.Prelude.{◌≡◌, ◌≤◌, IfSome};
 ghost use Rattle.h263_types.specs.Params.{IsParams};
-ghost use Rattle.rate_control.specs.Pace.{first_of, target_of};
+ghost use Rattle.rate_control.specs.Pace.{first_quant, target_of};
 ghost use Rattle.fitted_sender.specs.Aiming.{aim_after, first_aim, aimed_at, first_by, fit_after, fit_at, fit_at_start, fixed, refitted, target_by};
 ghost use Rattle.fitted_sender.specs.Stands.{IsAim};
 
@@ -72,7 +72,7 @@ impl Aim {
     pub fn pace(&self, kind: Kind) -> SendPace
         requires { IsAim self.now }
         ensures target { target_of result ≡ target_by self.now.target self.now.fit }
-        ensures first { first_of result ≡ first_by self.now.quant kind self.now.fit }
+        ensures first { first_quant result ≡ first_by self.now.quant kind self.now.fit }
     {
         match self.fit {
             None => SendPace::choose(self.target, self.quant),

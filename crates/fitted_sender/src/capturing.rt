@@ -2,7 +2,7 @@
 ghost use Rattle.std.specs.Prelude.{◌≡◌, ◌+◌, ◌<◌, ◌≤◌, length};
 ghost use Rattle.h263_planes.specs.Lent.{picture};
 ghost use Rattle.picture_header.specs.Ranges.{AreMessages};
-ghost use Rattle.sender_end.specs.Stands.{Holds, Run};
+ghost use Rattle.sender_end.specs.Stands.{Holds, SentRun};
 ghost use Rattle.fitted_sender.specs.Aiming.{counted_bytes, kind_by, next_kind};
 ghost use Rattle.fitted_sender.specs.Stands.{IsAim, IsCaptured};
 
@@ -21,7 +21,7 @@ fn kind_for(known: u32) -> Kind
 
 // The kind of the next picture.
 fn kind_of_next(sender: &Sender<SendPace>) -> Kind
-    ensures { (run : Run) → Holds sender.now run → result ≡ next_kind sender.now.params run }
+    ensures { (run : SentRun) → Holds sender.now run → result ≡ next_kind sender.now.params run }
 {
     kind_for(sender.known())
 }
@@ -54,7 +54,7 @@ pub fn capture(
     ensures sent { sender.new.sent ≡ sender.old.sent + 1 }
     ensures aim { IsAim aim.new }
     ensures count { result.packets ≡ length sender.new.packets }
-    ensures captured { (run : Run) → Holds sender.old run → IsCaptured
+    ensures captured { (run : SentRun) → Holds sender.old run → IsCaptured
         (record { picture = picture frame.entry; messages = back.now }) sender.old.params
         (record { run = run; aim = aim.old }) sender.new aim.new result }
 {

@@ -24,7 +24,7 @@ use Rattle.group_sender.specs.Holding.{Groups, group_after_code, group_after_say
 use Rattle.group_sender.specs.Laws.{OneIsASender, in_group_of_one}
 use Rattle.group_sender.specs.Running.{group_run}
 use Rattle.group_call.specs.One.{IsTheCall, OneRun, group_of_one, one_hears, one_sends}
-use Rattle.group_call.specs.Viewing.{ViewerRun, packets_in, view_packet}
+use Rattle.group_call.specs.Viewing.{ViewerRun, coded_packets, view_packet}
 
 module _ (p : Params) (frames : List Frame) where
   abbrev both : List Event → Joined Style Mb Picture
@@ -101,10 +101,10 @@ module _ (p : Params) (frames : List Frame) where
     one_more (Deliver n j) past h =
         let one = group_of_one p frames past in
         let w = both past in
-        let same : packets_in p one.run.coded n ≡ packets_in p w.sender.coded n =
-        ap (λ (l : List (Coded Style Mb Picture)). packets_in p l n) (coded_is past one.run h.run_is) in
+        let same : coded_packets p one.run.coded n ≡ coded_packets p w.sender.coded n =
+        ap (λ (l : List (Coded Style Mb Picture)). coded_packets p l n) (coded_is past one.run h.run_is) in
         let reached = by_packet n one.view w (record { receiver = h.receiver; told = h.told; plays = h.plays })
-        (slice_get (packets_in p w.sender.coded n) j) in
+        (slice_get (coded_packets p w.sender.coded n) j) in
         let moved = subst (λ (l : List (List ℕ)). Reached (option_map_or (view_packet p n one.view)
         (slice_get l j) one.view) (both (Deliver n j ∷ past))) (sym same) reached in
         record {

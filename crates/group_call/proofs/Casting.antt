@@ -9,17 +9,17 @@ use Rattle.h263_types.specs.declared.params.Params.{Params}
 use Rattle.h263_types.specs.Sizes.{mbs_of}
 use Rattle.h263_planes.specs.Picture.{Picture}
 use Rattle.call_model.specs.CodedPictures.{Coded}
-use Rattle.call_model.specs.Sending.{header_of, packets_before, packets_of}
+use Rattle.call_model.specs.Sending.{header_of, packets_before, packets_at}
 use Rattle.call_decoding.specs.Rules.{rules_of}
 use Rattle.call_decoding.specs.Styles.{Style}
 use Rattle.call_encoding.specs.Encoding.{encoding}
 use Rattle.call_encoding.specs.Frames.{Frame}
-use Rattle.call_rings.specs.Parts.{size_of}
+use Rattle.call_rings.specs.Parts.{total_size}
 use Rattle.sender_end.specs.Stands.{Holds}
 use Rattle.sender_end.specs.State.{SenderState}
 use Rattle.one_way.specs.Laws.{PacketLaws}
 use Rattle.group_sender.specs.Holding.{Groups, next_of_group, pictures_alone}
-use Rattle.group_call.specs.Viewing.{packets_in}
+use Rattle.group_call.specs.Viewing.{coded_packets}
 
 -- the pace of one quantiser
 abbrev pub paced : ℕ → List ℕ → ℕ
@@ -36,9 +36,10 @@ get_last (y ∷ xs) x = get_last xs x
 -- the sender has the packets of its last picture, and has coded what the run has
 pub last_packets : (p : Params) (state : SenderState FixedPace) (run : Groups) → state.params ≡ p
     → Holds state (pictures_alone run)
-    → state.packets ≡ packets_in p run.coded (length run.coded - 1)
+    → state.packets ≡ coded_packets p run.coded (length run.coded - 1)
 last_packets p state run same h =
-    sym h.seen.packets ∙ h.holds.keeps.packets ∙ ap (λ (q : Params). packets_in q run.coded (length run.coded - 1)) same
+    sym h.seen.packets ∙ h.holds.keeps.packets
+    ∙ ap (λ (q : Params). coded_packets q run.coded (length run.coded - 1)) same
 
 pub sent_is : (state : SenderState FixedPace) (run : Groups) → Holds state (pictures_alone run)
     → state.sent ≡ length run.coded
@@ -52,23 +53,23 @@ with_next p quant frame run = run.coded ++ next_of_group p (paced quant) frame r
 pub newest_packets : (p : Params) (quant : ℕ) (frame : Frame) (run : Groups) (state : SenderState FixedPace)
     → state.params ≡ p
     → Holds state (pictures_alone (record run { coded = with_next p quant frame run }))
-    → state.packets ≡ packets_in p (with_next p quant frame run) (length run.coded)
+    → state.packets ≡ coded_packets p (with_next p quant frame run) (length run.coded)
 newest_packets p quant frame run state same h =
     let number : length (with_next p quant frame run) - 1
     ≡ length run.coded = omega (arith, one_longer run.coded (next_of_group p (paced quant) frame run)) in
     last_packets p state (record run { coded = with_next p quant frame run }) same h
-    ∙ ap (λ (n : ℕ). packets_in p (with_next p quant frame run) n) number
+    ∙ ap (λ (n : ℕ). coded_packets p (with_next p quant frame run) n) number
 
 -- they have room in the ring
 pub newest_room : (p : Params) → PacketLaws p → (quant : ℕ) (frame : Frame) (run : Groups) → (0 < quant) × (quant < 32)
-    → (size_of (packets_in p (with_next p quant frame run) (length run.coded)) ≤ 1200 * mbs_of p.format)
-    × (length (packets_in p (with_next p quant frame run) (length run.coded)) ≤ mbs_of p.format)
-unfolding packets_of
+    → (total_size (coded_packets p (with_next p quant frame run) (length run.coded)) ≤ 1200 * mbs_of p.format)
+    × (length (coded_packets p (with_next p quant frame run) (length run.coded)) ≤ mbs_of p.format)
+unfolding packets_at
 newest_room p laws quant frame run ranged =
     let x = next_of_group p (paced quant) frame run in
     let n = length run.coded in
     subst (λ (o : Option (Coded Style Mb Picture)).
-    (size_of (option_map_or (λ (y : Coded Style Mb Picture). (encoding p).packets n
+    (total_size (option_map_or (λ (y : Coded Style Mb Picture). (encoding p).packets n
     (packets_before (take n (run.coded ++ x ∷ []))) (header_of (rules_of p) n y) y.slices) o []) ≤ 1200 * mbs_of
     p.format)
     × (length (option_map_or (λ (y : Coded Style Mb Picture). (encoding p).packets n

@@ -22,11 +22,12 @@ use Rattle.group_sender.specs.Hearing.{says_in}
 use Rattle.group_sender.specs.InACall.{Arrives, ComesBack, Done, Lived, Plays, lived_events}
 use Rattle.group_sender.specs.Running.{CaptureAll, FeedbackOf, JoinsAt, LeavesAt}
 use Rattle.group_call.specs.Following.{view_lived}
-use Rattle.group_call.specs.Viewing.{ViewerRun, packets_in, view_packet}
+use Rattle.group_call.specs.Viewing.{ViewerRun, coded_packets, view_packet}
 
 module _ (p : Params) (source : Source Style Mb Picture) (coded : List (Coded Style Mb Picture)) where
   abbrev run_in : List (Lived Frame) → ReceiverRun Style Mb Picture
-  run_in lived = received (decoding p.format) (rules_of p) source (λ _ n. packets_in p coded n) (lived_events 0 lived)
+  run_in lived = received (decoding p.format) (rules_of p) source (λ _ n. coded_packets p coded n)
+      (lived_events 0 lived)
 
   -- a packet, if there is one
   by_slot : (n : ℕ) (view : ViewerRun) (run : ReceiverRun Style Mb Picture) → run_of p view.entries ≡ run
@@ -44,7 +45,7 @@ module _ (p : Params) (source : Source Style Mb Picture) (coded : List (Coded St
   received_is (Done (JoinsAt j) ∷ past) = received_is past
   received_is (Done (LeavesAt j) ∷ past) = received_is past
   received_is (Arrives n j ∷ past) = by_slot n (view_lived p coded past) (run_in past) (received_is past)
-      (slice_get (packets_in p coded n) j)
+      (slice_get (coded_packets p coded n) j)
   received_is (Plays ∷ past) = ap (λ (r : ReceiverRun Style Mb Picture). after_play (decoding p.format) (rules_of p) r)
       (received_is past)
   received_is (ComesBack i bytes ∷ past) = received_is past
@@ -52,7 +53,7 @@ module _ (p : Params) (source : Source Style Mb Picture) (coded : List (Coded St
   -- ---- what it says
 
   abbrev said_in : List (Lived Frame) → List SaidMessage
-  said_in lived = says_in (coding p) (rules_of p) source (λ _ n. packets_in p coded n) (lived_events 0 lived)
+  said_in lived = says_in (coding p) (rules_of p) source (λ _ n. coded_packets p coded n) (lived_events 0 lived)
 
   -- a packet, if there is one
   told_slot : (n : ℕ) (view : ViewerRun) (run : ReceiverRun Style Mb Picture) (said : List SaidMessage)
@@ -71,7 +72,7 @@ module _ (p : Params) (source : Source Style Mb Picture) (coded : List (Coded St
   told_is (Done (JoinsAt j) ∷ past) = told_is past
   told_is (Done (LeavesAt j) ∷ past) = told_is past
   told_is (Arrives n j ∷ past) = told_slot n (view_lived p coded past) (run_in past) (said_in past) (received_is past)
-      (told_is past) (slice_get (packets_in p coded n) j)
+      (told_is past) (slice_get (coded_packets p coded n) j)
   told_is (Plays ∷ past) =
       let received = received_is past in
       let told = told_is past in

@@ -18,13 +18,13 @@ use Rattle.receiver_end.specs.Decoding.{decoding}
 use Rattle.receiver_end.specs.State.{run_of}
 use Rattle.group_sender.specs.InACall.{AreLived, Arrives, ComesBack, Done, Lived, Plays, group_entries, lived_events, lived_source}
 use Rattle.group_sender.specs.Running.{GroupEntry, group_run}
-use Rattle.group_call.specs.Viewing.{ViewerRun, no_view, packets_in, view_delivery, view_play}
+use Rattle.group_call.specs.Viewing.{ViewerRun, no_view, coded_packets, view_delivery, view_play}
 
 -- what a receiver has done that was there from the start, where these pictures are coded
 abbrev pub view_lived : Params → List (Coded Style Mb Picture) → List (Lived Frame) → ViewerRun
 view_lived p coded [] = no_view
 view_lived p coded (Done entry ∷ past) = view_lived p coded past
-view_lived p coded (Arrives n j ∷ past) = view_delivery p (packets_in p coded n) n j (view_lived p coded past)
+view_lived p coded (Arrives n j ∷ past) = view_delivery p (coded_packets p coded n) n j (view_lived p coded past)
 view_lived p coded (Plays ∷ past) = view_play p (view_lived p coded past)
 view_lived p coded (ComesBack i bytes ∷ past) = view_lived p coded past
 

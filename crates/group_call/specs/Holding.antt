@@ -3,7 +3,7 @@ use Rattle.std.specs.Prelude.{◌≡◌, ℕ, ◌+◌, ◌*◌, ◌<◌, ◌≤�
 use Rattle.h263_types.specs.Params.{IsParams}
 use Rattle.h263_types.specs.Sizes.{mbs_of}
 use Rattle.h263_types.specs.declared.params.Params.{Params}
-use Rattle.call_rings.specs.Keeping.{begun_of, most_of, period_of, room_of}
+use Rattle.call_rings.specs.Keeping.{begun_of, most_of, ring_period, ring_room}
 use Rattle.call_rings.specs.Messages.{said_of}
 use Rattle.group_sender.specs.Holding.{Groups, HoldsGroup}
 use Rattle.receiver_end.specs.State.{Stands}
@@ -16,8 +16,8 @@ use Rattle.group_call.specs.Viewing.{ViewerRun}
 -- ---- the sender's side
 
 -- how many pictures' packets are kept, and how many were sent
-abbrev pub pictures_in : Broadcast → ℕ
-pictures_in cast = period_of cast.packets
+abbrev pub cast_period : Broadcast → ℕ
+cast_period cast = ring_period cast.packets
 
 abbrev pub sent_in : Broadcast → ℕ
 sent_in cast = cast.group.sender.sent
@@ -38,7 +38,7 @@ pub record HoldsBroadcast (p : Params) (cast : Broadcast) (run : Groups) : Type 
   pub holds : HoldsGroup cast.group run
   pub packets : HasPackets p cast.packets run.coded
   pub references : HasReferences cast.references run.coded
-  pub room : room_of cast.packets ≡ 1200 * mbs_of p.format
+  pub room : ring_room cast.packets ≡ 1200 * mbs_of p.format
   pub most : most_of cast.packets ≡ mbs_of p.format
   pub begun : begun_of cast.packets ≡ cast.group.sender.sent
 
@@ -50,7 +50,7 @@ pub record IsCasting (cast : Broadcast) : Type 0 where
 
 -- of this many pictures this one is among the last whose packets are kept
 abbrev pub IsCast : Broadcast → ℕ → ℕ → Type 0
-IsCast cast count n = (n < count) × (count ≤ n + pictures_in cast)
+IsCast cast count n = (n < count) × (count ≤ n + cast_period cast)
 
 -- ---- a receiver's side
 

@@ -12,7 +12,7 @@ use Rattle.receiver_end.specs.State.{run_of}
 use Rattle.one_way.specs.Both.{both_after, steady}
 use Rattle.group_sender.specs.Holding.{Groups, group_after_code, group_after_saying}
 use Rattle.group_sender.specs.Running.{after_join, no_group}
-use Rattle.group_call.specs.Viewing.{ViewerRun, no_view, packets_in, view_delivery, view_play}
+use Rattle.group_call.specs.Viewing.{ViewerRun, no_view, coded_packets, view_delivery, view_play}
 
 -- what the group and its only receiver have done
 pub record OneRun : Type 0 where
@@ -30,7 +30,7 @@ one_hears p told run = option_map_or (λ (told : SaidMessage). group_after_sayin
 abbrev pub one_after : Params → List Frame → Event → OneRun → OneRun
 one_after p frames Send one = record one { run = one_sends p (slice_get frames (length one.run.coded)) one.run }
 one_after p frames (Deliver n j) one =
-    record one { view = view_delivery p (packets_in p one.run.coded n) n j one.view }
+    record one { view = view_delivery p (coded_packets p one.run.coded n) n j one.view }
 one_after p frames Play one = record one { view = view_play p one.view }
 one_after p frames (Back k) one = record one { run = one_hears p (slice_get one.view.told k) one.run }
 

@@ -8,7 +8,7 @@ use Rattle.call_model.specs.Coding.{Shown}
 use Rattle.call_model.specs.CodedPictures.{Coded}
 use Rattle.call_model.specs.JoinedRun.{SaidMessage, said_at_play, said_to}
 use Rattle.call_model.specs.Receiving.{ReceiverEntry, Packet, PlayNext, played_shown}
-use Rattle.call_model.specs.Sending.{packets_of}
+use Rattle.call_model.specs.Sending.{packets_at}
 use Rattle.call_decoding.specs.Rules.{rules_of}
 use Rattle.call_decoding.specs.Styles.{Style}
 use Rattle.call_encoding.specs.Encoding.{encoding}
@@ -30,8 +30,8 @@ abbrev pub no_view : ViewerRun
 no_view = record { entries = []; told = []; plays = [] }
 
 -- the packets of picture n, of those that were coded
-abbrev pub packets_in : Params → List (Coded Style Mb Picture) → ℕ → List (List ℕ)
-packets_in p coded n = packets_of (encoding p) (rules_of p) coded n
+abbrev pub coded_packets : Params → List (Coded Style Mb Picture) → ℕ → List (List ℕ)
+coded_packets p coded n = packets_at (encoding p) (rules_of p) coded n
 
 -- the bytes of a packet of picture n reach it
 abbrev pub view_packet : Params → ℕ → ViewerRun → List ℕ → ViewerRun

@@ -5,14 +5,14 @@ ghost use Rattle.std.specs.Option.{option_map};
 ghost use Rattle.h263_types.specs.declared.params.Params.{Params};
 ghost use Rattle.h263_types.specs.Params.{IsParams};
 ghost use Rattle.h263_planes.specs.Lent.{picture as lent};
-ghost use Rattle.call_rings.specs.Keeping.{HoldsPackets, HasSizes, Pictures, begun_of};
-ghost use Rattle.call_rings.specs.Keeping.{most_of, period_of, room_of};
+ghost use Rattle.call_rings.specs.Keeping.{HoldsPackets, HasSizes, PacketsOfPictures, begun_of};
+ghost use Rattle.call_rings.specs.Keeping.{most_of, ring_period, ring_room};
 ghost use Rattle.one_way.specs.Both.{bare, steady};
 ghost use Rattle.one_way.specs.Network.{AreRoomy, IsKeeping};
 ghost use Rattle.one_way.specs.Seen.{reference_in};
 ghost use Rattle.group_sender.specs.Holding.{Groups, group_after_code, group_after_saying};
 ghost use Rattle.group_sender.specs.Running.{after_join, no_group};
-ghost use Rattle.group_call.specs.Viewing.{packets_in};
+ghost use Rattle.group_call.specs.Viewing.{coded_packets};
 
 use call_rings::{SentPackets, laws as call_rings_laws};
 use group_sender::Group;
@@ -35,10 +35,10 @@ fn keep_packets(packets: &mut SentPackets, group: &Group<FixedPace>, count: u32)
     requires keeping { IsKeeping packets.old }
     requires room { AreRoomy packets.old group.now.sender.packets }
     requires few { begun_of packets.old + 1 < 2 ^ 32 }
-    ensures kept { (pictures : Pictures) → HoldsPackets packets.old pictures
+    ensures kept { (pictures : PacketsOfPictures) → HoldsPackets packets.old pictures
         → HoldsPackets packets.new (pictures ++ group.now.sender.packets ∷ []) }
     ensures sizes { let ring = packets.old in
-        HasSizes packets.new (period_of ring) (room_of ring) (most_of ring) }
+        HasSizes packets.new (ring_period ring) (ring_room ring) (most_of ring) }
     ensures begun { begun_of packets.new ≡ begun_of packets.old + 1 }
 {
     call_rings_laws::has_room();
@@ -51,7 +51,7 @@ fn keep_packets(packets: &mut SentPackets, group: &Group<FixedPace>, count: u32)
 
 impl Broadcast {
     ghost use Rattle.group_call.specs.Holding.{HoldsBroadcast, IsCast, IsCasting, params_in};
-    ghost use Rattle.group_call.specs.Holding.{pictures_in, places_in, sent_in};
+    ghost use Rattle.group_call.specs.Holding.{cast_period, places_in, sent_in};
 
     /// A group before its first picture, with nobody to receive it, and room for the packets of this
     /// many pictures.
@@ -61,7 +61,7 @@ impl Broadcast {
         requires few { kept ≤ 1024 }
         ensures params { IfOk result (λ cast. params_in cast ≡ params.now) }
         ensures sent { IfOk result (λ cast. sent_in cast ≡ 0) }
-        ensures kept { IfOk result (λ cast. pictures_in cast ≡ kept) }
+        ensures kept { IfOk result (λ cast. cast_period cast ≡ kept) }
         ensures ready { IfOk result IsCasting }
         ensures holds { IfOk result (λ cast. HoldsBroadcast params.now cast no_group) }
     {
@@ -85,7 +85,7 @@ impl Broadcast {
         requires { place < 16 }
         ensures params { params_in self.new ≡ params_in self.old }
         ensures sent { sent_in self.new ≡ sent_in self.old }
-        ensures kept { pictures_in self.new ≡ pictures_in self.old }
+        ensures kept { cast_period self.new ≡ cast_period self.old }
         ensures ready { IsCasting self.old → IsCasting self.new }
         ensures holds { (p : Params) (run : Groups) → HoldsBroadcast p self.old run
             → HoldsBroadcast p self.new (after_join place run) }
@@ -101,7 +101,7 @@ impl Broadcast {
         requires ready { IsCasting self.old }
         ensures params { params_in self.new ≡ params_in self.old }
         ensures sent { sent_in self.new ≡ sent_in self.old + 1 }
-        ensures kept { pictures_in self.new ≡ pictures_in self.old }
+        ensures kept { cast_period self.new ≡ cast_period self.old }
         ensures number { result ≡ sent_in self.old }
         ensures ready { IsCasting self.new }
         ensures holds { (p : Params) (run : Groups) → HoldsBroadcast p self.old run
@@ -121,7 +121,7 @@ impl Broadcast {
         ensures few { result ≤ places_in self.now }
         ensures packets { (p : Params) (run : Groups) → HoldsBroadcast p self.now run
             → IsCast self.now (length run.coded) number
-            → result ≡ length (packets_in p run.coded number) }
+            → result ≡ length (coded_packets p run.coded number) }
     {
         one_way_laws::ring_laws();
         self.packets.count(number)
@@ -132,7 +132,7 @@ impl Broadcast {
         ensures { (p : Params) (run : Groups) → HoldsBroadcast p self.now run
             → IsCast self.now (length run.coded) number
             → option_map (λ packet. packet.now) result
-            ≡ slice_get (packets_in p run.coded number) place }
+            ≡ slice_get (coded_packets p run.coded number) place }
     {
         one_way_laws::ring_laws();
         self.packets.packet(number, place)
@@ -163,7 +163,7 @@ impl Broadcast {
         requires { place < 16 }
         ensures params { params_in self.new ≡ params_in self.old }
         ensures sent { sent_in self.new ≡ sent_in self.old }
-        ensures kept { pictures_in self.new ≡ pictures_in self.old }
+        ensures kept { cast_period self.new ≡ cast_period self.old }
         ensures ready { IsCasting self.old → IsCasting self.new }
         ensures holds { (p : Params) (run : Groups) → HoldsBroadcast p self.old run
             → HoldsBroadcast p self.new (group_after_saying p place bytes.now run) }

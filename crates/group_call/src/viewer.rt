@@ -2,7 +2,7 @@
 ghost use Rattle.std.specs.Prelude.{◌≡◌, ◌+◌, ◌^◌, ◌<◌, ◌≤◌, ℕ, List, [], ◌∷◌, ◌++◌, IfOk, IfSome};
 ghost use Rattle.std.specs.Prelude.{length};
 ghost use Rattle.std.specs.Option.{option_map};
-ghost use Rattle.back_messages.specs.Said.{text_of};
+ghost use Rattle.back_messages.specs.Said.{text_of_said};
 ghost use Rattle.coded_call.specs.Bytes.{AreBytes};
 ghost use Rattle.h263_types.specs.declared.params.Params.{Params};
 ghost use Rattle.h263_types.specs.Params.{IsParams};
@@ -12,13 +12,13 @@ ghost use Rattle.call_rings.specs.Messages.{said_of};
 ghost use Rattle.call_model.specs.JoinedRun.{SaidMessage};
 ghost use Rattle.call_model.specs.Receiving.{played_mark};
 ghost use Rattle.call_decoding.specs.Rules.{rules_of};
-ghost use Rattle.receiver_end.specs.Answers.{mark_of};
+ghost use Rattle.receiver_end.specs.Answers.{mark_from};
 ghost use Rattle.receiver_end.specs.Decoding.{decoding};
 ghost use Rattle.receiver_end.specs.State.{run_of};
 ghost use Rattle.one_way.specs.Counts.{no_marks, total_of};
 ghost use Rattle.one_way.specs.Network.{HasMessages, told_by, told_in};
 ghost use Rattle.group_sender.specs.Holding.{Groups};
-ghost use Rattle.group_call.specs.Viewing.{ViewerRun, no_view, packets_in, view_delivery};
+ghost use Rattle.group_call.specs.Viewing.{ViewerRun, no_view, coded_packets, view_delivery};
 ghost use Rattle.group_call.specs.Viewing.{told_at, view_picture, view_play};
 
 use crate::Broadcast;
@@ -41,7 +41,7 @@ pub struct Viewer {
 // What was said, if anything was: bytes.
 fn as_bytes(said: Option<Said>) -> Option<Said>
     ensures same { result ≡ said }
-    ensures bytes { IfSome result (λ said. AreBytes (text_of said)) }
+    ensures bytes { IfSome result (λ said. AreBytes (text_of_said said)) }
 {
     if let Some(said) = &said {
         are_bytes(said.text());
@@ -93,7 +93,7 @@ impl Viewer {
         ensures holds { (p : Params) (run : Groups) (view : ViewerRun)
             → HoldsBroadcast p cast.now run → IsCast cast.now (length run.coded) number
             → HoldsViewer p self.old view → HoldsViewer p self.new
-            (view_delivery p (packets_in p run.coded number) number place view) }
+            (view_delivery p (coded_packets p run.coded number) number place view) }
     {
         one_way_laws::ring_laws();
         receiver_end_laws::answers_say();
@@ -114,7 +114,7 @@ impl Viewer {
         ensures holds { (p : Params) (run : Groups) (view : ViewerRun)
             → HoldsBroadcast p cast.now run → IsCast cast.now (length run.coded) number
             → HoldsViewer p self.old view → HoldsViewer p self.new
-            (view_picture p (packets_in p run.coded number) number view) }
+            (view_picture p (coded_packets p run.coded number) number view) }
     {
         let count = cast.count(number);
         'packets: for place in 0..count {
@@ -133,7 +133,7 @@ impl Viewer {
         ensures few { told_count self.new ≤ told_count self.old + 1 }
         ensures counted { total_of self.new.tally ≡ total_of self.old.tally + 1 }
         ensures mark { (p : Params) (view : ViewerRun) → HoldsViewer p self.old view
-            → result.mark ≡ mark_of
+            → result.mark ≡ mark_from
             (played_mark (decoding p.format) (rules_of p) (run_of p view.entries)) }
         ensures holds { (p : Params) (view : ViewerRun) → HoldsViewer p self.old view
             → HoldsViewer p self.new (view_play p view) }

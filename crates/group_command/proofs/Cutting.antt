@@ -6,7 +6,8 @@ use Rattle.h263_outside.specs.declared.desk.Role.TheVariants.{Video, Events}
 use Rattle.y4m.specs.declared.fault.Y4mFault.{Y4mFault}
 use Rattle.y4m.specs.Frame.{frame_size, next_frame}
 use Rattle.loss_trace.specs.declared.fault.TraceFault.TheVariants.{TooMany}
-use Rattle.loss_trace.specs.Lines.{NoNewline, first_line}
+use Rattle.h263_outside.specs.Lines.{NoNewline}
+use Rattle.loss_trace.specs.Lines.{first_line}
 use Rattle.desk_program.specs.Run.{Step}
 use Rattle.desk_program.specs.Run.Step.{Ends}
 use Rattle.desk_program.specs.Ends.{IsPart, step_turns}

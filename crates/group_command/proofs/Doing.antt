@@ -24,7 +24,7 @@ use Rattle.one_way.specs.declared.refusals.EventRefusal.{EventRefusal as Told}
 use Rattle.one_way.specs.Refused.{IsAllowed}
 use Rattle.group_sender.specs.Holding.{Groups}
 use Rattle.group_call.specs.declared.broadcast.Broadcast.{Broadcast}
-use Rattle.group_call.specs.Holding.{HoldsBroadcast, IsCast, IsCasting, pictures_in, places_in}
+use Rattle.group_call.specs.Holding.{HoldsBroadcast, IsCast, IsCasting, cast_period, places_in}
 use Rattle.group_call.specs.Refused.{view_refusal}
 use Rattle.group_call.specs.Viewing.{ViewerRun, told_at, view_delivery, view_packet, view_places}
 use Rattle.group_command.specs.declared.line.OwnEvent.{OwnEvent}
@@ -111,7 +111,7 @@ module _ (p : Params) (run : Groups) (view : ViewerRun) where
   abouts = map (λ (told : SaidMessage). told.about) view.told
 
   -- the packets of a picture that may reach the receiver are kept
-  pub is_cast : (cast : Broadcast) (n j : ℕ) → pictures_in cast ≡ period_of p.clock → sent ≤ played + half_of p.clock
+  pub is_cast : (cast : Broadcast) (n j : ℕ) → cast_period cast ≡ period_of p.clock → sent ≤ played + half_of p.clock
       → view_refusal p run view (Deliver n j) ≡ None → IsCast cast sent n
   is_cast cast n j period near free =
       let e = packet_near (rules_of p) (sent + 1) sent played abouts n j free in

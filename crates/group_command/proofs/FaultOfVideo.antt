@@ -7,12 +7,12 @@ use Rattle.y4m.specs.declared.fault.Y4mFault.{Y4mFault}
 use Rattle.y4m.specs.Frame.{next_frame, frame_size}
 use Rattle.y4m.specs.Head.{head_of, head_size}
 use Rattle.y4m.specs.Laws.{FrameLaws}
-use Rattle.y4m.specs.Video.{fault_of, fault_after_head, video_fault}
+use Rattle.y4m.specs.Video.{first_video_fault, fault_after_head, video_fault}
 use Rattle.loss_trace.specs.Lines.{first_line}
 use Rattle.call_report.specs.declared.status.Status.TheVariants.{VideoRefused, Video2Refused}
 use Rattle.call_model.specs.IdealCall.{Event, Send}
 use Rattle.call_model.specs.Refusals.{Refusal}
-use Rattle.desk_program.specs.Run.{Run, Step, left_after, follow, run_of, silence}
+use Rattle.desk_program.specs.Run.{Run, Step, left_after, follow, machine_run, silence}
 use Rattle.desk_program.specs.Texts.{of}
 use Rattle.group_call.specs.Refused.{view_refusal}
 use Rattle.group_command.specs.declared.line.GroupLine.{GroupLine}
@@ -33,23 +33,23 @@ module _ (frame_laws : FrameLaws) (fault : Y4mFault) where
   -- the fault stands after the first frame, or is that of the first frame
   after_it : (f : Format) (more at b : ℕ) (v planes video : List ℕ) → video ≡ b ∷ v → next_frame more f at (b ∷ v)
       ≡ Ok planes
-      → fault_of f (more - 1) (at + frame_size f (b ∷ v)) (drop (0 + frame_size f (b ∷ v)) video) ≡ Some fault
-      → fault_of f more at (b ∷ v) ≡ Some fault
+      → first_video_fault f (more - 1) (at + frame_size f (b ∷ v)) (drop (0 + frame_size f (b ∷ v)) video) ≡ Some fault
+      → first_video_fault f more at (b ∷ v) ≡ Some fault
   after_it f more at b v planes video same is later =
       let size = frame_size f (b ∷ v) in
       let e = frame_laws.next f more (more - 1) at (b ∷ v) planes (some_left more at f (b ∷ v) planes is)
       (omega arith) is in
       let taken : 0 + size ≡ size = omega arith in
-      e.fault ∙ sym (λ i. fault_of f (more - 1) (at + size) (drop (taken i) (same i))) ∙ later
+      e.fault ∙ sym (λ i. first_video_fault f (more - 1) (at + size) (drop (taken i) (same i))) ∙ later
 
   at_fault : (f : Format) (more at b : ℕ) (v : List ℕ) (broken : Y4mFault) → next_frame more f at (b ∷ v) ≡ Err broken
-      → broken ≡ fault → fault_of f more at (b ∷ v) ≡ Some fault
+      → broken ≡ fault → first_video_fault f more at (b ∷ v) ≡ Some fault
   at_fault f more at b v broken is same =
       (frame_laws.stops f more at (b ∷ v) broken (omega arith) is).1 ∙ ap (λ (x : Y4mFault). Some x) same
 
   -- what is left of the video has the fault
   abbrev IsFaulty : GroupState → (Role → List ℕ) → Type 0
-  IsFaulty s inputs = fault_of s.params.format s.more s.at (inputs Video) ≡ Some fault
+  IsFaulty s inputs = first_video_fault s.params.format s.more s.at (inputs Video) ≡ Some fault
 
   module _ (s : GroupState) (inputs : Role → List ℕ) (rest : GroupState → (Role → ℕ) → Run)
       (later : (next : GroupState) (taken : Role → ℕ) → (rest next taken).last.status ≡ VideoRefused fault
@@ -66,10 +66,10 @@ module _ (frame_laws : FrameLaws) (fault : Y4mFault) where
         → next_frame s.more s.params.format s.at (b ∷ v) ≡ r
         → Refuses (group_captured_step s (inputs Events) (frame_size s.params.format (b ∷ v)) r) → IsFaulty s inputs
     at_captured b v same (Ok planes) is ends =
-        subst (λ (l : List ℕ). fault_of s.params.format s.more s.at l ≡ Some fault) (sym same)
+        subst (λ (l : List ℕ). first_video_fault s.params.format s.more s.at l ≡ Some fault) (sym same)
         (after_it s.params.format s.more s.at b v planes (inputs Video) same is (later _ _ ends))
     at_captured b v same (Err broken) is ends =
-        subst (λ (l : List ℕ). fault_of s.params.format s.more s.at l ≡ Some fault) (sym same)
+        subst (λ (l : List ℕ). first_video_fault s.params.format s.more s.at l ≡ Some fault) (sym same)
         (at_fault s.params.format s.more s.at b v broken is (first_is broken fault ends))
 
     at_capture : (video : List ℕ) → inputs Video ≡ video → Refuses (group_capture_step s (inputs Events) video)
@@ -94,13 +94,13 @@ module _ (frame_laws : FrameLaws) (fault : Y4mFault) where
         within true is ends = at_line (group_line (length s.views) (first_line (b ∷ trace))) (rw is at ends)
         within false is ends = absurd (cc (rw is at ends))
 
-  run_refused : (n : ℕ) (s : GroupState) (inputs : Role → List ℕ) → (run_of group_step n s inputs).last.status
+  run_refused : (n : ℕ) (s : GroupState) (inputs : Role → List ℕ) → (machine_run group_step n s inputs).last.status
       ≡ VideoRefused fault → IsFaulty s inputs
-  unfolding run_of
+  unfolding machine_run
   run_refused zero s inputs ends = at_trace s inputs (λ next taken. silence) (λ next taken is. absurd (cc is))
       (inputs Events) ends
   run_refused (suc n) s inputs ends =
-      at_trace s inputs (λ next taken. run_of group_step n next (left_after inputs taken))
+      at_trace s inputs (λ next taken. machine_run group_step n next (left_after inputs taken))
       (λ next taken is. run_refused n next (left_after inputs taken) is) (inputs Events) ends
 
   pub video_refused : (t : GroupTerms) (inputs : Role → List ℕ) → (group_call_run t inputs).last.status
@@ -110,7 +110,7 @@ module _ (frame_laws : FrameLaws) (fault : Y4mFault) where
   video_refused t inputs ends = by_head (head_of (inputs Video)) ends
     where
       by_head : (r : Result Format Y4mFault)
-          → (follow (group_head_step t (inputs Video) r) (λ next taken. run_of group_step most_lines next
+          → (follow (group_head_step t (inputs Video) r) (λ next taken. machine_run group_step most_lines next
           (left_after inputs taken))).last.status ≡ VideoRefused fault
           → fault_after_head r (head_size (inputs Video)) (drop (head_size (inputs Video)) (inputs Video)) ≡ Some fault
       by_head (Err broken) ends = ap (λ (x : Y4mFault). Some x) (first_is broken fault ends)
@@ -153,13 +153,13 @@ module _ (fault : Y4mFault) where
         within true is ends = second_line (group_line (length s.views) (first_line (b ∷ trace))) (rw is at ends)
         within false is ends = absurd (cc (rw is at ends))
 
-  run_has_one : (n : ℕ) (s : GroupState) (inputs : Role → List ℕ) → (run_of group_step n s inputs).last.status
+  run_has_one : (n : ℕ) (s : GroupState) (inputs : Role → List ℕ) → (machine_run group_step n s inputs).last.status
       ≡ Video2Refused fault → ⊥
-  unfolding run_of
+  unfolding machine_run
   run_has_one zero s inputs ends = second_trace s inputs (λ next taken. silence) (λ next taken is. absurd (cc is))
       (inputs Events) ends
   run_has_one (suc n) s inputs ends =
-      second_trace s inputs (λ next taken. run_of group_step n next (left_after inputs taken))
+      second_trace s inputs (λ next taken. machine_run group_step n next (left_after inputs taken))
       (λ next taken is. run_has_one n next (left_after inputs taken) is) (inputs Events) ends
 
   pub no_second : (t : GroupTerms) (inputs : Role → List ℕ) → (group_call_run t inputs).last.status
@@ -167,7 +167,7 @@ module _ (fault : Y4mFault) where
   no_second t inputs ends = by_head (head_of (inputs Video)) ends
     where
       by_head : (r : Result Format Y4mFault)
-          → (follow (group_head_step t (inputs Video) r) (λ next taken. run_of group_step most_lines next
+          → (follow (group_head_step t (inputs Video) r) (λ next taken. machine_run group_step most_lines next
           (left_after inputs taken))).last.status ≡ Video2Refused fault → ⊥
       by_head (Ok f) ends = run_has_one most_lines _ _ ends
       by_head (Err broken) ends = absurd (cc ends)

@@ -13,7 +13,7 @@ use Rattle.y4m.specs.declared.fault.Y4mFault.{Y4mFault}
 use Rattle.y4m.specs.Head.{head_of, head_size}
 use Rattle.y4m.specs.Laws.{FrameLaws}
 use Rattle.y4m.specs.Text.{head_text}
-use Rattle.y4m.specs.Video.{fault_after_head, fault_of, frames_after_head, frames_of, video_fault, video_frames}
+use Rattle.y4m.specs.Video.{fault_after_head, first_video_fault, frames_after_head, frames_of, video_fault, video_frames}
 use Rattle.call_model.specs.Before.{Sends}
 use Rattle.call_model.specs.Coding.{pictures_of}
 use Rattle.call_model.specs.CodedPictures.{Coded, picture_at}
@@ -24,7 +24,7 @@ use Rattle.call_decoding.specs.Rules.{rules_of}
 use Rattle.call_decoding.specs.Styles.{Style}
 use Rattle.call_encoding.specs.Frames.{Frame}
 use Rattle.coded_call.specs.Coding.{coding}
-use Rattle.desk_program.specs.Run.{Run, left_after, follow, run_of, taken_of, texts_of}
+use Rattle.desk_program.specs.Run.{Run, left_after, follow, machine_run, taken_of, texts_of}
 use Rattle.desk_program.specs.Texts.{of}
 use Rattle.group_call.specs.Viewing.{no_view}
 use Rattle.group_command.specs.declared.terms.GroupTerms.{GroupTerms}
@@ -41,7 +41,7 @@ video_is video f is = ap (λ (r : Result Format Y4mFault). frames_after_head r (
     (drop (head_size video) video)) is
 
 fault_is : (video : List ℕ) (f : Format) → head_of video ≡ Ok f
-    → video_fault video ≡ fault_of f 1048576 (head_size video) (drop (head_size video) video)
+    → video_fault video ≡ first_video_fault f 1048576 (head_size video) (drop (head_size video) video)
 unfolding video_fault
 fault_is video f is = ap (λ (r : Result Format Y4mFault). fault_after_head r (head_size video)
     (drop (head_size video) video)) is
@@ -94,7 +94,7 @@ module _ (t : GroupTerms) (f : Format) (inputs : Role → List ℕ) where
   module _ (laws : RunLaws p) (arrived : Arrived p) (frame_laws : FrameLaws) (some : 1 ≤ t.receivers)
       (few : t.receivers ≤ 3) (head : head_of (inputs Video) ≡ Ok f) where
     abbrev rest : GroupState → (Role → ℕ) → Run
-    rest next taken = run_of group_step 16777216 next (left_after inputs taken)
+    rest next taken = machine_run group_step 16777216 next (left_after inputs taken)
 
     abbrev size : ℕ
     size = head_size (inputs Video)

@@ -12,11 +12,11 @@ use Rattle.call_decoding.specs.Rules.{rules_of}
 use Rattle.call_decoding.specs.Styles.{Style}
 use Rattle.call_encoding.specs.Frames.{Frame}
 use Rattle.call_encoding.specs.Messages.{write_message}
-use Rattle.one_way.specs.Laws.{MessageLaws}
+use Rattle.one_way.specs.Laws.{NetworkLaws}
 use Rattle.group_sender.specs.Holding.{Groups}
 use Rattle.group_call.specs.One.{one_sends}
-use Rattle.group_call.specs.Viewing.{ViewerRun, no_view, packets_in, view_delivery, view_picture, view_places, view_play}
-use Rattle.group_command.specs.Group.{joined_by, view_in}
+use Rattle.group_call.specs.Viewing.{ViewerRun, no_view, coded_packets, view_delivery, view_picture, view_places, view_play}
+use Rattle.group_command.specs.Group.{after_joins, view_in}
 use Rattle.group_command.specs.Recorded.{AllReferToNewest, Captured, Happening, Played, Reached, Returned, after_note, call_at, call_with, events_at, group_at, if_own, with_slices}
 use Rattle.group_command.proofs.Lives as life
 use Rattle.group_command.proofs.Lives.{Lives, ViewLaws, starts_in}
@@ -37,7 +37,7 @@ other_place k i apart = by_test (eqb k i) refl
 pub record GroupLaws (p : Params) : Type 0 where
   pub views : ViewLaws p
   pub references : ReferenceLaws p
-  pub messages : MessageLaws p
+  pub messages : NetworkLaws p
 
 module _ (p : Params) (count : ℕ) (frames : List Frame) (laws : GroupLaws p) (most : count ≤ 16) where
   abbrev group : List Happening → Groups
@@ -59,7 +59,7 @@ module _ (p : Params) (count : ℕ) (frames : List Frame) (laws : GroupLaws p) (
   pub all_start : AllLive [] (replicate count no_view)
   all_start = record {
     long = length-replicate count no_view;
-    lives = λ k few. subst (λ (v : ViewerRun). Lived k (joined_by count) [] v)
+    lives = λ k few. subst (λ (v : ViewerRun). Lived k (after_joins count) [] v)
         (sym (get_or-replicate count k no_view no_view few)) (starts_in p laws.views k count few most);
     parties = parties_start count most;
     refer = tt;
@@ -120,7 +120,8 @@ module _ (p : Params) (count : ℕ) (frames : List Frame) (laws : GroupLaws p) (
     -- ---- packets
 
     pub all_reached : (k n j : ℕ) → k < count → IsNear k run (events_at k past) n
-        → AllLive (Reached k n j ∷ past) (slice_set views k (view_delivery p (packets_in p run.coded n) n j (view k)))
+        → AllLive (Reached k n j ∷ past)
+        (slice_set views k (view_delivery p (coded_packets p run.coded n) n j (view k)))
     all_reached k n j few may =
         one_on k few past (Reached k n j ∷ past) views _ all
         (to_own k run (Deliver n j) (events_at k past) _
@@ -146,25 +147,26 @@ module _ (p : Params) (count : ℕ) (frames : List Frame) (laws : GroupLaws p) (
         ∙ others_slices k n m i apart
 
     own_slices : (k n m : ℕ) → k < count → IsNear k run (events_at k past) n
-        → Lived k run (events_at k (slices k n m)) (view_places p (packets_in p run.coded n) n m (view k))
+        → Lived k run (events_at k (slices k n m)) (view_places p (coded_packets p run.coded n) n m (view k))
         × IsNear k run (events_at k (slices k n m)) n
     own_slices k n zero few may = (all.lives k few, may)
     own_slices k n (suc m) few may =
         let before = own_slices k n m few may in
         let events = events_at k (slices k n m) in
         subst (λ (b : Bool). Lived k run (if_own b (Deliver n m) events)
-        (view_places p (packets_in p run.coded n) n (suc m) (view k)) × IsNear k run (if_own b (Deliver n m) events) n)
+        (view_places p (coded_packets p run.coded n) n (suc m) (view k))
+        × IsNear k run (if_own b (Deliver n m) events) n)
         (sym (same_place k)) (
-          life.reaches p laws.views k n m run events (view_places p (packets_in p run.coded n) n m (view k)) before.0
+          life.reaches p laws.views k n m run events (view_places p (coded_packets p run.coded n) n m (view k)) before.0
               before.1,
           before.1,
         )
 
     pub all_slices : (k n : ℕ) → k < count → IsNear k run (events_at k past) n
         → AllLive (slices k n (length (slices_at run.coded n)))
-        (slice_set views k (view_picture p (packets_in p run.coded n) n (view k)))
+        (slice_set views k (view_picture p (coded_packets p run.coded n) n (view k)))
     all_slices k n few may =
-        let packets = packets_in p run.coded n in
+        let packets = coded_packets p run.coded n in
         let m = length packets in
         let is : group (slices k n m) ≡ run = group_slices k n m in
         subst (λ (c : ℕ). AllLive (slices k n c) (slice_set views k (view_picture p packets n (view k))))

@@ -12,7 +12,7 @@ use Rattle.call_model.specs.Coding.{pictures_of}
 use Rattle.call_model.specs.CodedPictures.{Coded, capture}
 use Rattle.call_model.specs.IdealCall.{AllMayHappenFrom, Call, Event, Send, Deliver, Play, Back, NumberedMessage, Source, about, after, call_from}
 use Rattle.call_model.specs.Lawful.{IsPace}
-use Rattle.call_model.specs.Sending.{header_of, packets_before, packets_of}
+use Rattle.call_model.specs.Sending.{header_of, packets_before, packets_at}
 use Rattle.call_model.specs.TwoStores.{travelling}
 use Rattle.call_decoding.specs.Rules.{rules_of}
 use Rattle.call_decoding.specs.Styles.{Style}
@@ -26,8 +26,8 @@ use Rattle.group_sender.specs.InACall.{AreLived, Arrives, ComesBack, Done, Lived
 use Rattle.group_sender.specs.Running.{CaptureAll, FeedbackOf, GroupEntry, JoinsAt, after_join, group_run}
 use Rattle.group_call.specs.Following.{ViewerFollows, ViewersFollow, view_lived}
 use Rattle.group_call.specs.Hearing.{ViewerIsHeard, ViewersAreHeard}
-use Rattle.group_call.specs.Viewing.{ViewerRun, no_view, packets_in, view_delivery, view_packet, view_play}
-use Rattle.group_command.specs.Group.{joined_by}
+use Rattle.group_call.specs.Viewing.{ViewerRun, no_view, coded_packets, view_delivery, view_packet, view_play}
+use Rattle.group_command.specs.Group.{after_joins}
 use Rattle.group_command.specs.Recorded.{call_with, one_by_one}
 
 -- ---- lists
@@ -48,8 +48,8 @@ slice_next (y ∷ xs) x ys = slice_next xs x ys
 
 -- the packets of a picture that was coded stay
 pub packets_stay : (p : Params) (coded more : List (Coded Style Mb Picture)) (n : ℕ) → n < length coded
-    → packets_in p (coded ++ more) n ≡ packets_in p coded n
-unfolding packets_of
+    → coded_packets p (coded ++ more) n ≡ coded_packets p coded n
+unfolding packets_at
 packets_stay p coded more n below =
     let there = slice_before coded more n below in
     let earlier = take_before coded more n below in
@@ -81,21 +81,22 @@ module _ (p : Params) where
   abbrev grouped : List (GroupEntry Frame) → Groups
   grouped entries = group_run (pictures_of (coding p)) (encoding p) (rules_of p) entries
 
-  below_is : (k : ℕ) → grouped (joins_below k) ≡ joined_by k
+  below_is : (k : ℕ) → grouped (joins_below k) ≡ after_joins k
   below_is zero = refl
   below_is (suc k) = ap (λ (g : Groups). after_join k g) (below_is k)
 
-  above_is : (k n : ℕ) → grouped (group_entries k (joins_below k) (joins_above k n)) ≡ joined_by (suc (place_after k n))
+  above_is : (k n : ℕ) → grouped (group_entries k (joins_below k) (joins_above k n))
+      ≡ after_joins (suc (place_after k n))
   above_is k zero = ap (λ (g : Groups). after_join k g) (below_is k)
   above_is k (suc n) = ap (λ (g : Groups). after_join (suc (place_after k n)) g) (above_is k n)
 
-pub none_coded : (k : ℕ) → (joined_by k).coded ≡ []
+pub none_coded : (k : ℕ) → (after_joins k).coded ≡ []
 none_coded zero = refl
 none_coded (suc k) = none_coded k
 
-pub all_places : (k : ℕ) → length (joined_by k).parties ≡ 16
+pub all_places : (k : ℕ) → length (after_joins k).parties ≡ 16
 all_places zero = refl
-all_places (suc k) = length-set (joined_by k).parties k _ ∙ all_places k
+all_places (suc k) = length-set (after_joins k).parties k _ ∙ all_places k
 
 no_events : (k n : ℕ) → lived_events 0 (joins_above k n) ≡ []
 no_events k zero = refl
@@ -197,7 +198,7 @@ module _ (p : Params) (laws : ViewLaws p) where
   view_start k zero coded = refl
   view_start k (suc n) coded = view_start k n coded
 
-  starts : (k n : ℕ) → k < 16 → Lives k (joined_by (suc (place_after k n))) [] no_view
+  starts : (k n : ℕ) → k < 16 → Lives k (after_joins (suc (place_after k n))) [] no_view
   starts k n place = record {
     place = place;
     lived = joins_above k n;
@@ -205,18 +206,18 @@ module _ (p : Params) (laws : ViewLaws p) where
     group_is = above_is p k n;
     own = sym (none_coded (suc (place_after k n)));
     call_is = λ later. refl;
-    fair = λ later. fair_start k n ((joined_by (suc (place_after k n))).coded ++ later);
+    fair = λ later. fair_start k n ((after_joins (suc (place_after k n))).coded ++ later);
     near = λ later. tt;
-    view_is = λ later. view_start k n ((joined_by (suc (place_after k n))).coded ++ later);
+    view_is = λ later. view_start k n ((after_joins (suc (place_after k n))).coded ++ later);
     plays = refl;
   }
 
-  pub starts_in : (k count : ℕ) → k < count → count ≤ 16 → Lives k (joined_by count) [] no_view
+  pub starts_in : (k count : ℕ) → k < count → count ≤ 16 → Lives k (after_joins count) [] no_view
   starts_in k count few most =
       let n = count - 1 - k in
       let is : suc (place_after k n) ≡ count = omega (arith, few, place_is k n) in
       let place : k < 16 = omega (arith, few, most) in
-      subst (λ (m : ℕ). Lives k (joined_by m) [] no_view) is (starts k n place)
+      subst (λ (m : ℕ). Lives k (after_joins m) [] no_view) is (starts k n place)
 
   -- ---- what reaches it, and what it plays
 
@@ -234,7 +235,7 @@ module _ (p : Params) (laws : ViewLaws p) where
   pub reaches : (k n j : ℕ) (run : Groups) (events : List Event) (view : ViewerRun) → Lives k run events view
       → (n < length (call_with p run.coded events).coded)
       × ((call_with p run.coded events).played < n + (rules_of p).half)
-      → Lives k run (Deliver n j ∷ events) (view_delivery p (packets_in p run.coded n) n j view)
+      → Lives k run (Deliver n j ∷ events) (view_delivery p (coded_packets p run.coded n) n j view)
   reaches k n j run events view l may =
       let own : length (call_with p run.coded events).coded ≡ length run.coded =
       ap (λ (s : List (Coded Style Mb Picture)). length s) l.own in
@@ -256,7 +257,7 @@ module _ (p : Params) (laws : ViewLaws p) where
             let stay = packets_stay p run.coded later n below in
             let same = l.view_is later in
             λ i. view_delivery p (stay i) n j (same i);
-        plays = delivery_shows (packets_in p run.coded n) n j view ∙ l.plays;
+        plays = delivery_shows (coded_packets p run.coded n) n j view ∙ l.plays;
       }
 
   pub plays_next : (k : ℕ) (run : Groups) (events : List Event) (view : ViewerRun) → Lives k run events view

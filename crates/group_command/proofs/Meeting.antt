@@ -8,13 +8,14 @@ use Rattle.h263_types.specs.declared.params.Params.{Params}
 use Rattle.h263_planes.specs.Picture.{Picture}
 use Rattle.h263_outside.specs.declared.desk.Role.TheVariants.{Report}
 use Rattle.y4m.specs.Text.{frame_text}
-use Rattle.call_report.specs.Text.{Text, picture_text}
+use Rattle.h263_types.specs.Texts.{Text}
+use Rattle.call_report.specs.Text.{picture_text}
 use Rattle.call_model.specs.Coding.{Shown}
 use Rattle.call_model.specs.CodedPictures.{Coded}
 use Rattle.call_model.specs.IdealCall.{Call, Event, Send, Deliver, Play, Back, NumberedMessage, about, slices_at}
 use Rattle.call_model.specs.JoinedRun.{SaidMessage}
 use Rattle.call_model.specs.Refusals.{Refusal, Far, first_refusal, refusal_in}
-use Rattle.call_model.specs.Sending.{header_of, packets_of}
+use Rattle.call_model.specs.Sending.{header_of, packets_at}
 use Rattle.call_model.specs.TwoStores.{told_of}
 use Rattle.call_rings.specs.Messages.{kept_messages}
 use Rattle.call_decoding.specs.Rules.{rules_of}
@@ -23,14 +24,14 @@ use Rattle.call_encoding.specs.Encoding.{encoding}
 use Rattle.call_encoding.specs.Messages.{write_message}
 use Rattle.call_command.specs.Counts.{counts_text_of}
 use Rattle.call_command.specs.Recorded.{shown_text}
-use Rattle.receiver_end.specs.Answers.{mark_of}
+use Rattle.receiver_end.specs.Answers.{mark_from}
 use Rattle.receiver_end.specs.State.{run_of}
-use Rattle.one_way.specs.Counts.{count_of, one_exact, one_held, one_patched}
-use Rattle.one_way.specs.Laws.{MessageLaws}
+use Rattle.one_way.specs.Counts.{plays_marked, one_exact, one_held, one_patched}
+use Rattle.one_way.specs.Laws.{NetworkLaws}
 use Rattle.one_way.specs.Seen.{reference_in}
 use Rattle.group_sender.specs.Holding.{Groups, group_after_saying}
 use Rattle.group_call.specs.Refused.{unless_left, view_refusal}
-use Rattle.group_call.specs.Viewing.{ViewerRun, packets_in}
+use Rattle.group_call.specs.Viewing.{ViewerRun, coded_packets}
 use Rattle.call_command.specs.Rows.{shown_texts}
 use Rattle.group_command.specs.Group.{counts_of_view, group_heard, pictures_at, played_texts}
 use Rattle.group_command.specs.Recorded.{after_note, call_with, counts_line, if_own, next_shown}
@@ -55,9 +56,9 @@ note_heard p k (suc m) run (note ∷ notes) = note_heard p k m run notes
 -- ---- packets
 
 -- a picture has a packet for each slice
-pub packets_count : (p : Params) → MessageLaws p → (coded : List (Coded Style Mb Picture)) (n : ℕ)
-    → length (packets_in p coded n) ≡ length (slices_at coded n)
-unfolding packets_of slices_at
+pub packets_count : (p : Params) → NetworkLaws p → (coded : List (Coded Style Mb Picture)) (n : ℕ)
+    → length (coded_packets p coded n) ≡ length (slices_at coded n)
+unfolding packets_at slices_at
 packets_count p laws coded n = by_picture _ (slice_get coded n)
   where
     by_picture : (sequence : ℕ) (o : Option (Coded Style Mb Picture))
@@ -71,7 +72,7 @@ packets_count p laws coded n = by_picture _ (slice_get coded n)
 
 -- where the texts of a play stand: the picture is its receiver's, the line the report's
 abbrev pub if_shown : Bool → Shown Picture → Text
-if_shown b shown = if b then frame_text (mark_of shown.mark) shown.picture else []
+if_shown b shown = if b then frame_text (mark_from shown.mark) shown.picture else []
 
 pub pictures_texts : (k j n : ℕ) (reference : Option ℕ) (shown : Shown Picture) → k < 3 → j < 3
     → shown_texts (pictures_at k) (Some (49 + k)) n reference shown (pictures_at j) ≡ if_shown (eqb k j) shown
@@ -89,7 +90,7 @@ pictures_texts k (suc (suc (suc j))) n r shown low lower = absurd (omega (arith,
 
 pub report_texts : (k n : ℕ) (reference : Option ℕ) (shown : Shown Picture)
     → shown_texts (pictures_at k) (Some (49 + k)) n reference shown Report
-    ≡ picture_text n (Some (mark_of shown.mark)) (Some reference) (Some (49 + k))
+    ≡ picture_text n (Some (mark_from shown.mark)) (Some reference) (Some (49 + k))
 report_texts zero n r shown = refl
 report_texts (suc zero) n r shown = refl
 report_texts (suc (suc k)) n r shown = refl
@@ -204,5 +205,5 @@ module _ (p : Params) (laws : ViewLaws p) (k : ℕ) (run : Groups) (events : Lis
       let coded = coded_is in
       let plays = played_is in
       let shown = l.plays in
-      λ i. counts_text_of ((49 + place) ∷ codes " played") (plays i) (coded i) (count_of one_exact (shown i))
-      (count_of one_patched (shown i)) (count_of one_held (shown i))
+      λ i. counts_text_of ((49 + place) ∷ codes " played") (plays i) (coded i) (plays_marked one_exact (shown i))
+      (plays_marked one_patched (shown i)) (plays_marked one_held (shown i))

@@ -20,7 +20,7 @@ use Rattle.desk_program.specs.Ends.{GainsFronts, GivesUp, Went, step_texts}
 use Rattle.desk_program.specs.Run.{Step}
 use Rattle.group_call.specs.declared.viewer.Viewer.{Viewer}
 use Rattle.group_call.specs.declared.broadcast.Broadcast.{Broadcast}
-use Rattle.group_call.specs.Holding.{pictures_in, sent_in}
+use Rattle.group_call.specs.Holding.{cast_period, sent_in}
 use Rattle.group_call.specs.Refused.{view_refusal}
 use Rattle.group_call.specs.Viewing.{ViewerRun}
 use Rattle.group_command.specs.declared.event.OwnLine.{OwnLine}
@@ -102,7 +102,7 @@ module _ (m : Room) (said : OwnLine) (mid old new : Outside) (s : GroupState) (i
   pub clock_is : (half : ℕ) → half ≡ half_of m.params.clock → half ≡ half_of s.params.clock
   clock_is half is = is ∙ ap (λ (p : Params). half_of p.clock) (sym b.stood.params)
 
-  pub period_is : pictures_in m.cast ≡ period_of m.params.clock → pictures_in m.cast ≡ period_of s.params.clock
+  pub period_is : cast_period m.cast ≡ period_of m.params.clock → cast_period m.cast ≡ period_of s.params.clock
   period_is is = is ∙ ap (λ (p : Params). period_of p.clock) (sym b.stood.params)
 
   pub own_gave_up : (cast : Broadcast) (viewers : Viewers) (status : Status) → Holds cast viewers (Err status)

@@ -12,13 +12,13 @@ use Rattle.h263_outside.specs.declared.desk.Role.TheVariants.{Video, Events, Rep
 use Rattle.y4m.specs.declared.fault.Y4mFault.{Y4mFault}
 use Rattle.y4m.specs.Frame.{next_frame, frame_size}
 use Rattle.y4m.specs.Laws.{FrameLaws}
-use Rattle.y4m.specs.Video.{after_frame, fault_of as video_fault_of, frames_of}
+use Rattle.y4m.specs.Video.{after_frame, first_video_fault as video_fault_of, frames_of}
 use Rattle.loss_trace.specs.declared.fault.TraceFault.{TraceFault}
 use Rattle.loss_trace.specs.declared.fault.TraceFault.TheVariants.{TooMany}
 use Rattle.loss_trace.specs.Lines.{later_lines, first_line, is_closed}
 use Rattle.call_report.specs.declared.status.Status.{Status}
 use Rattle.call_report.specs.declared.status.Status.TheVariants.{TraceRefused, VideoRefused}
-use Rattle.call_report.specs.Text.{Text}
+use Rattle.h263_types.specs.Texts.{Text}
 use Rattle.call_model.specs.CodedPictures.{Coded}
 use Rattle.call_model.specs.IdealCall.{MayHappen, Call, Event, Send, Deliver, Play, Back, NumberedMessage, slices_at}
 use Rattle.call_model.specs.Refusals.{NoFrame as NoPicture, NoneWhereItMayHappen, Refusal, refusal_in}
@@ -26,7 +26,7 @@ use Rattle.call_decoding.specs.Rules.{rules_of}
 use Rattle.call_decoding.specs.Styles.{Style}
 use Rattle.call_encoding.specs.Frames.{Frame}
 use Rattle.receiver_end.specs.State as receiver_end
-use Rattle.desk_program.specs.Run.{Run, Step, Turn, left_after, follow, run_of, silence, taken_of, text_of, texts_of}
+use Rattle.desk_program.specs.Run.{Run, Step, Turn, left_after, follow, machine_run, silence, taken_of, text_of, texts_of}
 use Rattle.desk_program.specs.Run.Step.{Ends}
 use Rattle.desk_program.specs.Texts.{and_of, no_texts, of, on, only_at_ok}
 use Rattle.one_way.specs.Both.{bare, steady}
@@ -650,7 +650,7 @@ module _ (p : Params) (count : ℕ) (frames : List Frame) (broken : Option Y4mFa
         → Comes past2 (group_lines count n (later_lines (inputs Events)))
         (lines_fault count n (lines + 1 + 1) (later_lines (inputs Events))) (lines + 1 + 1)
         (left_after inputs taken Events)
-        (run_of group_step n (state run2 views2 at2 more2 (lines + 1) ended2) (left_after inputs taken))
+        (machine_run group_step n (state run2 views2 at2 more2 (lines + 1) ended2) (left_after inputs taken))
 
     module _ (past : List Happening) (views : List ViewerRun) (all : Live past views) (at more lines : ℕ) (ended : Bool)
         (inputs : Role → List ℕ) (on : IsOn past at more (inputs Video)) where
@@ -674,7 +674,7 @@ module _ (p : Params) (count : ℕ) (frames : List Frame) (broken : Option Y4mFa
 
       module _ (n : ℕ) where
         abbrev on_with : GroupState → (Role → ℕ) → Run
-        on_with next taken = run_of group_step n next (left_after inputs taken)
+        on_with next taken = machine_run group_step n next (left_after inputs taken)
 
         choice_comes : (b : Bool) (byte : ℕ) (trace : List ℕ) → inputs Events ≡ byte ∷ trace → GoesOn n lines inputs
             → lines + suc n ≡ 16777216 → nat_lt lines 16777216 ≡ b
@@ -714,8 +714,8 @@ module _ (p : Params) (count : ℕ) (frames : List Frame) (broken : Option Y4mFa
     pub run_comes : (n : ℕ) (past : List Happening) (views : List ViewerRun) (at more lines : ℕ) (ended : Bool)
         (inputs : Role → List ℕ) → Live past views → IsOn past at more (inputs Video) → lines + n ≡ 16777216
         → Comes past (group_lines count n (inputs Events)) (lines_fault count n (lines + 1) (inputs Events)) (lines + 1)
-        (inputs Events) (run_of group_step n (state (group past) views at more lines ended) inputs)
-    unfolding run_of group_lines lines_fault
+        (inputs Events) (machine_run group_step n (state (group past) views at more lines ended) inputs)
+    unfolding machine_run group_lines lines_fault
     run_comes zero past views at more lines ended inputs all on room =
         last_comes past views all at more lines ended inputs on (inputs Events) room
     run_comes (suc n) past views at more lines ended inputs all on room =
@@ -724,10 +724,11 @@ module _ (p : Params) (count : ℕ) (frames : List Frame) (broken : Option Y4mFa
         subst (λ (g : Groups). Comes past2 (group_lines count n (later_lines (inputs Events)))
         (lines_fault count n (lines + 1 + 1) (later_lines (inputs Events))) (lines + 1 + 1)
         (left_after inputs taken Events)
-        (run_of group_step n (state g views2 at2 more2 (lines + 1) ended2) (left_after inputs taken))) (sym is)
+        (machine_run group_step n (state g views2 at2 more2 (lines + 1) ended2) (left_after inputs taken))) (sym is)
         (subst (λ (l : List ℕ). Comes past2 (group_lines count n l) (lines_fault count n (lines + 1 + 1) l)
         (lines + 1 + 1) (left_after inputs taken Events)
-        (run_of group_step n (state (group past2) views2 at2 more2 (lines + 1) ended2) (left_after inputs taken))) gone
+        (machine_run group_step n (state (group past2) views2 at2 more2 (lines + 1) ended2) (left_after inputs taken)))
+        gone
         (run_comes n past2 views2 at2 more2 (lines + 1) ended2 (left_after inputs taken) live
         (subst (λ (v : List ℕ). IsOn past2 at2 more2 v) (sym seen) on2) (one_less lines n room))))
         room

@@ -17,7 +17,7 @@ use Rattle.group_sender.specs.Holding.{Groups, group_after_code, next_of_group}
 use Rattle.group_sender.specs.Laws.{AllHaveIs, IsNewestOfAll, ReferenceIsNewestOfAll}
 use Rattle.group_sender.specs.Parties.{Party, all_have, nobody, party_after_saying, party_at, party_has, party_joined, with_party_at}
 use Rattle.group_call.specs.One.{one_sends}
-use Rattle.group_command.specs.Group.{joined_by}
+use Rattle.group_command.specs.Group.{after_joins}
 use Rattle.group_command.specs.Recorded.{AllHaveTold, Happening, IsNewestTold, RefersToNewest, call_at, group_at}
 use Rattle.group_command.proofs.Lives.{none_coded}
 
@@ -52,7 +52,7 @@ at_place P parties k j x below here other = by_test (eqb k j) refl
         let apart : k ≡ j → ⊥ = not_same k j is in
         subst P (sym (get_or-set_other parties k j x nobody (λ e. apart (sym e)))) (other apart)
 
-pub parties_start : (n : ℕ) → n ≤ 16 → PartiesAre n (joined_by n).parties
+pub parties_start : (n : ℕ) → n ≤ 16 → PartiesAre n (after_joins n).parties
 parties_start zero most = record {
   long = refl;
   there = λ k few. absurd (omega (arith, few));
@@ -61,9 +61,9 @@ parties_start zero most = record {
 }
 parties_start (suc n) most =
     let before = parties_start n (omega (arith, most)) in
-    let parties = (joined_by n).parties in
-    let new = party_joined (length (joined_by n).coded) in
-    let none : length (joined_by n).coded ≡ 0 = ap (λ (l : List (Coded Style Mb Picture)). length l) (none_coded n) in
+    let parties = (after_joins n).parties in
+    let new = party_joined (length (after_joins n).coded) in
+    let none : length (after_joins n).coded ≡ 0 = ap (λ (l : List (Coded Style Mb Picture)). length l) (none_coded n) in
     let below : n < length parties = omega (arith, before.long, most) in
     record {
       long = length-set parties n new ∙ before.long;

@@ -28,7 +28,7 @@ use Rattle.call_command.specs.Laws.{VideoLaws}
 use Rattle.group_command.specs.declared.room.Room.{Room}
 use Rattle.group_command.specs.declared.terms.GroupTerms.{GroupTerms}
 use Rattle.group_command.specs.Begin.{IsNewRoom}
-use Rattle.group_command.specs.Group.{GroupState, group_at_start, group_begin, group_head_step, viewers_heads, joined_by, room_may_read}
+use Rattle.group_command.specs.Group.{GroupState, group_at_start, group_begin, group_head_step, viewers_heads, after_joins, room_may_read}
 use Rattle.group_command.specs.Standing.{AreViewing, GroupOpens, RoomReady, RoomStandsAt, room_lines_left}
 use Rattle.call_command.specs.Call.{most_lines}
 
@@ -188,6 +188,6 @@ module _ (p : Params) (receivers : ℕ) (video : Y4mPlace) (m : Room) (new : IsN
             (subst (λ (n : ℕ). AreViewing 0 n m.viewers) (sym none) new.viewing);
       }
 
-pub none_coded : (k : ℕ) → length (joined_by k).coded ≡ 0
+pub none_coded : (k : ℕ) → length (after_joins k).coded ≡ 0
 none_coded zero = refl
 none_coded (suc k) = none_coded k

@@ -14,7 +14,7 @@ use Rattle.desk_program.specs.Laws.{TurnLaws}
 use Rattle.desk_program.specs.Texts.{on, then_also}
 use Rattle.call_model.specs.Receiving.{played_mark}
 use Rattle.call_decoding.specs.Rules.{rules_of}
-use Rattle.receiver_end.specs.Answers.{mark_of}
+use Rattle.receiver_end.specs.Answers.{mark_from}
 use Rattle.receiver_end.specs.Decoding.{decoding}
 use Rattle.receiver_end.specs.State.{run_of}
 use Rattle.one_way.specs.Seen.{reference_in}
@@ -35,7 +35,7 @@ pub row_is : (p : Params) (k : ℕ) (run : Groups) (view : ViewerRun) (role : Ro
     (reference : Option ℕ)
     (picture : Picture) → role ≡ pictures_at k → digit ≡ 49 + k
     → number ≡ (run_of p view.entries).played
-    → mark ≡ mark_of (played_mark (decoding p.format) (rules_of p) (run_of p view.entries))
+    → mark ≡ mark_from (played_mark (decoding p.format) (rules_of p) (run_of p view.entries))
     → reference ≡ reference_in run.coded (run_of p view.entries).played
     → picture ≡ (run_of p (view_play p view).entries).screen
     → row_texts (record {

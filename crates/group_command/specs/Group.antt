@@ -13,7 +13,7 @@ use Rattle.y4m.specs.Text.{head_text}
 use Rattle.loss_trace.specs.declared.fault.TraceFault.TheVariants.{BadLine, TooMany, NoFrame}
 use Rattle.loss_trace.specs.Lines.{first_line, is_closed}
 use Rattle.call_report.specs.declared.status.Status.TheVariants.{Ok as Fine, VideoRefused}
-use Rattle.call_report.specs.Text.{Text}
+use Rattle.h263_types.specs.Texts.{Text}
 use Rattle.call_model.specs.IdealCall.{Event, Send, Deliver, Play, Back}
 use Rattle.call_model.specs.JoinedRun.{SaidMessage}
 use Rattle.call_model.specs.Refusals.{Refusal}
@@ -25,12 +25,12 @@ use Rattle.desk_program.specs.Run.Step.{Goes, Ends}
 use Rattle.desk_program.specs.Texts.{no_bytes, no_texts, on, then_also, of, and_of}
 use Rattle.receiver_end.specs.State as receiver_end
 use Rattle.one_way.specs.Both.{bare, steady}
-use Rattle.one_way.specs.Counts.{count_of, one_exact, one_held, one_patched}
+use Rattle.one_way.specs.Counts.{plays_marked, one_exact, one_held, one_patched}
 use Rattle.one_way.specs.Seen.{reference_in}
 use Rattle.group_sender.specs.Holding.{Groups, group_after_code, group_after_saying}
 use Rattle.group_sender.specs.Running.{after_join, no_group}
 use Rattle.group_call.specs.Refused.{view_refusal}
-use Rattle.group_call.specs.Viewing.{ViewerRun, no_view, packets_in, view_delivery, view_picture, view_play}
+use Rattle.group_call.specs.Viewing.{ViewerRun, no_view, coded_packets, view_delivery, view_picture, view_play}
 use Rattle.group_command.specs.declared.terms.GroupTerms.{GroupTerms}
 use Rattle.group_command.specs.declared.line.GroupLine.{GroupLine}
 use Rattle.group_command.specs.declared.line.GroupLine.TheVariants.{Quiet, ForAll, Of}
@@ -65,7 +65,7 @@ view_in views k = slice_index_or views k no_view
 abbrev pub counts_of_view : Params → Groups → ℕ → ViewerRun → Text
 counts_of_view p run k view =
     counts_text_of ((49 + k) ∷ codes " played") (receiver_end.run_of p view.entries).played (length run.coded)
-    (count_of one_exact view.plays) (count_of one_patched view.plays) (count_of one_held view.plays)
+    (plays_marked one_exact view.plays) (plays_marked one_patched view.plays) (plays_marked one_held view.plays)
 
 -- those of all receivers, of which these are left from place k on
 abbrev pub counts_from : Params → Groups → ℕ → List ViewerRun → Role → List ℕ
@@ -99,8 +99,8 @@ module _ (p : Params) (k : ℕ) (run : Groups) (view : ViewerRun) where
   run_after own.Play = run
 
   abbrev pub view_after : OwnEvent → ViewerRun
-  view_after (own.Packet n j) = view_delivery p (packets_in p run.coded n) n j view
-  view_after (own.All n) = view_picture p (packets_in p run.coded n) n view
+  view_after (own.Packet n j) = view_delivery p (coded_packets p run.coded n) n j view
+  view_after (own.All n) = view_picture p (coded_packets p run.coded n) n view
   view_after (own.Back m) = view
   view_after own.Play = view_play p view
 
@@ -204,16 +204,16 @@ room_may_read s = not s.ended
 -- ---- the start
 
 -- receivers join at so many places, from 0 on
-abbrev pub joined_by : ℕ → Groups
-joined_by zero = no_group
-joined_by (suc k) = after_join k (joined_by k)
+abbrev pub after_joins : ℕ → Groups
+after_joins zero = no_group
+after_joins (suc k) = after_join k (after_joins k)
 
 -- before the first line, with the video's first frame at this byte
 abbrev pub group_at_start : Params → ℕ → ℕ → GroupState
 group_at_start p count at =
     record {
       params = p;
-      run = joined_by count;
+      run = after_joins count;
       views = replicate count no_view;
       at = at;
       more = 1048576;

@@ -15,7 +15,8 @@ use Rattle.loss_trace.specs.declared.fault.TraceFault.TheVariants.{BadLine, TooM
 use Rattle.loss_trace.specs.Lines.{later_lines, first_line}
 use Rattle.call_report.specs.declared.status.Status.{Status}
 use Rattle.call_report.specs.declared.status.Status.TheVariants.{TraceRefused, VideoRefused}
-use Rattle.call_report.specs.Text.{Text, picture_text}
+use Rattle.h263_types.specs.Texts.{Text}
+use Rattle.call_report.specs.Text.{picture_text}
 use Rattle.call_model.specs.Before as before
 use Rattle.call_model.specs.Before.{played_before}
 use Rattle.call_model.specs.Coding.{Exact, Shown, pictures_of}
@@ -29,9 +30,9 @@ use Rattle.call_decoding.specs.Styles.{Style}
 use Rattle.call_encoding.specs.Frames.{Frame}
 use Rattle.call_encoding.specs.Messages.{write_message}
 use Rattle.coded_call.specs.Coding.{coding}
-use Rattle.receiver_end.specs.Answers.{mark_of}
+use Rattle.receiver_end.specs.Answers.{mark_from}
 use Rattle.desk_program.specs.Run.{Run, taken_of, text_of}
-use Rattle.one_way.specs.Counts.{count_of, one_exact, one_held, one_patched}
+use Rattle.one_way.specs.Counts.{plays_marked, one_exact, one_held, one_patched}
 use Rattle.one_way.specs.Seen.{reference_in}
 use Rattle.call_command.specs.Call.{line_size}
 use Rattle.call_command.specs.Counts.{counts_text_of}
@@ -44,7 +45,7 @@ use Rattle.group_command.specs.declared.line.GroupLine.{GroupLine}
 use Rattle.group_command.specs.declared.line.GroupLine.TheVariants.{Quiet, ForAll, Of}
 use Rattle.group_command.specs.declared.line.OwnEvent.{OwnEvent}
 use Rattle.group_command.specs.declared.line.OwnEvent.TheVariants as own
-use Rattle.group_command.specs.Group.{event_of, joined_by, or_refused, pictures_at}
+use Rattle.group_command.specs.Group.{event_of, after_joins, or_refused, pictures_at}
 use Rattle.group_command.specs.Lines.{group_line}
 use Rattle.desk_program.specs.Texts.{only_at_ok}
 
@@ -128,18 +129,19 @@ next_shown p c = shown_at (pictures_of (coding p)) c.coded c.arrivals c.plays c.
 -- its line, where the call is that of the receiver at place k
 abbrev pub play_line : Params → ℕ → Call Style Mb Picture → Text
 play_line p k c =
-    picture_text c.played (Some (mark_of (next_shown p c).mark)) (Some (reference_in c.coded c.played)) (Some (49 + k))
+    picture_text c.played (Some (mark_from (next_shown p c).mark)) (Some (reference_in c.coded c.played))
+    (Some (49 + k))
 
 -- the line of the counts of its call
 abbrev pub counts_line : ℕ → Call Style Mb Picture → Text
 counts_line k c =
-    counts_text_of ((49 + k) ∷ codes " played") c.played (length c.coded) (count_of one_exact c.plays)
-    (count_of one_patched c.plays) (count_of one_held c.plays)
+    counts_text_of ((49 + k) ∷ codes " played") c.played (length c.coded) (plays_marked one_exact c.plays)
+    (plays_marked one_patched c.plays) (plays_marked one_held c.plays)
 
 module _ (p : Params) (count : ℕ) (frames : List Frame) where
   -- what the group has coded and knows after these events, the newest first
   abbrev pub group_at : List Happening → Groups
-  group_at [] = joined_by count
+  group_at [] = after_joins count
   group_at (Captured ∷ past) =
       one_sends p (slice_get frames (length (group_at past).coded)) (group_at past)
   group_at (Reached k n j ∷ past) = group_at past

@@ -10,7 +10,7 @@ use Rattle.receiver_end.specs.State.{run_of}
 use Rattle.one_way.specs.Counts.{total_of}
 use Rattle.group_sender.specs.Holding.{Groups}
 use Rattle.group_call.specs.declared.viewer.Viewer.{Viewer}
-use Rattle.group_call.specs.Holding.{HoldsBroadcast, HoldsViewer, IsCasting, params_in, pictures_in, sent_in, told_count}
+use Rattle.group_call.specs.Holding.{HoldsBroadcast, HoldsViewer, IsCasting, params_in, cast_period, sent_in, told_count}
 use Rattle.group_call.specs.Viewing.{ViewerRun}
 use Rattle.group_command.specs.declared.room.Room.{Room}
 use Rattle.group_command.specs.declared.terms.GroupTerms.{GroupTerms}
@@ -94,7 +94,7 @@ pub record RoomReady (m : Room) (attached : Role → Bool) : Type 0 where
   pub format : m.video.format ≡ m.params.format
   pub frame : length m.frame.items ≡ size_of_picture m.params.format
   pub params : params_in m.cast ≡ m.params
-  pub period : pictures_in m.cast ≡ period_of m.params.clock
+  pub period : cast_period m.cast ≡ period_of m.params.clock
   pub casting : IsCasting m.cast
   pub sent : sent_in m.cast + m.video.more ≡ 1048576
   pub few : m.trace.lines ≤ 16777216

@@ -19,7 +19,7 @@ use Rattle.group_call.specs.declared.viewer.Viewer.{Viewer}
 use Rattle.group_sender.specs.Holding.{Groups}
 use Rattle.group_call.specs.Refused.{view_refusal}
 use Rattle.group_call.specs.Viewing.{ViewerRun}
-use Rattle.group_call.specs.Holding.{HoldsBroadcast, IsCasting, params_in, pictures_in, sent_in}
+use Rattle.group_call.specs.Holding.{HoldsBroadcast, IsCasting, params_in, cast_period, sent_in}
 use Rattle.group_command.specs.declared.room.Room.{Room}
 use Rattle.group_command.specs.declared.event.OwnLine.{OwnLine}
 use Rattle.group_command.specs.declared.line.GroupLine.{GroupLine}
@@ -74,7 +74,7 @@ pub record OpensFor (place : ℕ) (attached : Role → Bool) : Type 0 where
 pub record KeepsCast (old new : Broadcast) : Type 0 where
   pub params : params_in new ≡ params_in old
   pub sent : sent_in new ≡ sent_in old
-  pub kept : pictures_in new ≡ pictures_in old
+  pub kept : cast_period new ≡ cast_period old
   pub casting : IsCasting old → IsCasting new
 
 -- ---- a line that was read

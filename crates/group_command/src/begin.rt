@@ -5,9 +5,9 @@ ghost use Rattle.h263_types.specs.Params.{IsParams};
 ghost use Rattle.h263_types.specs.Clocks.{period_of};
 ghost use Rattle.h263_outside.specs.Desk.{OnlyWrites, Rose};
 ghost use Rattle.desk_program.specs.Ends.{Gains, GainsFronts};
-ghost use Rattle.group_call.specs.Holding.{HoldsBroadcast, IsCasting, params_in, pictures_in, sent_in};
+ghost use Rattle.group_call.specs.Holding.{HoldsBroadcast, IsCasting, params_in, cast_period, sent_in};
 ghost use Rattle.group_command.specs.Begin.{IsNewRoom};
-ghost use Rattle.group_command.specs.Group.{viewers_heads, joined_by, pictures_at};
+ghost use Rattle.group_command.specs.Group.{viewers_heads, after_joins, pictures_at};
 
 use crate::show::put_own_head;
 use crate::{GroupTerms, Room, Viewers, laws};
@@ -26,9 +26,9 @@ fn joined(alloc: Global, params: &Params, receivers: u32) -> Result<Broadcast, O
     requires few { receivers ≤ 3 }
     ensures params { IfOk result (λ cast. params_in cast ≡ params.now) }
     ensures sent { IfOk result (λ cast. sent_in cast ≡ 0) }
-    ensures kept { IfOk result (λ cast. pictures_in cast ≡ period_of params.now.clock) }
+    ensures kept { IfOk result (λ cast. cast_period cast ≡ period_of params.now.clock) }
     ensures ready { IfOk result IsCasting }
-    ensures holds { IfOk result (λ cast. HoldsBroadcast params.now cast (joined_by receivers)) }
+    ensures holds { IfOk result (λ cast. HoldsBroadcast params.now cast (after_joins receivers)) }
 {
     let mut cast = Broadcast::start(alloc, params, params.clock.period())?;
     'places: for place in 0..receivers {

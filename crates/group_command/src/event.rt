@@ -5,7 +5,7 @@ ghost use Rattle.h263_types.specs.declared.params.Params.{Params};
 ghost use Rattle.h263_outside.specs.Desk.{OnlyWrites};
 ghost use Rattle.desk_program.specs.Ends.{HasCause, IsStop};
 ghost use Rattle.group_sender.specs.Holding.{Groups};
-ghost use Rattle.group_call.specs.Holding.{HoldsBroadcast, HoldsViewer, pictures_in, sent_in};
+ghost use Rattle.group_call.specs.Holding.{HoldsBroadcast, HoldsViewer, cast_period, sent_in};
 ghost use Rattle.group_call.specs.Viewing.{ViewerRun, told_at};
 ghost use Rattle.group_command.specs.Group.{group_heard};
 ghost use Rattle.group_command.specs.Standing.{IsViewing, Watches};
@@ -54,7 +54,7 @@ pub fn own_turn<D: Desk>(
     ensures keeps { KeepsCast cast.old cast.new }
     ensures viewing { IsViewing (sent_in cast.old) said.line viewer.new }
     ensures gives { (p : Params) (run : Groups) (view : ViewerRun) → half ≡ half_of p.clock
-        → pictures_in cast.old ≡ period_of p.clock → HoldsBroadcast p cast.old run
+        → cast_period cast.old ≡ period_of p.clock → HoldsBroadcast p cast.old run
         → Watches p run viewer.old view
         → OwnGives result said p run view (λ run view. Watches p run viewer.new view) cast.new
         (D.outside desk.old).written (D.outside desk.new).written }

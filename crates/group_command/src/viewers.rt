@@ -10,7 +10,7 @@ ghost use Rattle.call_model.specs.IdealCall.{Send};
 ghost use Rattle.desk_program.specs.Ends.{Gains, GainsFronts, HasCause, IsStop};
 ghost use Rattle.one_way.specs.Refused.{IsAllowed};
 ghost use Rattle.group_sender.specs.Holding.{Groups};
-ghost use Rattle.group_call.specs.Holding.{HoldsBroadcast, HoldsViewer, pictures_in, sent_in};
+ghost use Rattle.group_call.specs.Holding.{HoldsBroadcast, HoldsViewer, cast_period, sent_in};
 ghost use Rattle.group_call.specs.Viewing.{ViewerRun, no_view};
 ghost use Rattle.group_command.specs.Group.{counts_from, first_behind};
 ghost use Rattle.group_command.specs.Standing.{AllWatch, AreViewing, IsViewing, Watches, and_then};
@@ -119,7 +119,7 @@ fn turn_if<D: Desk>(
     ensures keeps { KeepsCast cast.old cast.new }
     ensures viewing { IfSome viewer.new (IsViewing (sent_in cast.old) said.line) }
     ensures gives { (p : Params) (run : Groups) (view : ViewerRun) → half ≡ half_of p.clock
-        → pictures_in cast.old ≡ period_of p.clock → HoldsBroadcast p cast.old run
+        → cast_period cast.old ≡ period_of p.clock → HoldsBroadcast p cast.old run
         → IfSome viewer.old (λ v. Watches p run v view)
         → OwnGives result said p run view (λ run view. IfSome viewer.new (λ v. Watches p run v view))
         cast.new (D.outside desk.old).written (D.outside desk.new).written }
@@ -230,7 +230,7 @@ impl Viewers {
         ensures count { length (viewers_in self.new) ≡ length (viewers_in self.old) }
         ensures viewing { AreViewing (sent_in cast.old) said.line self.new }
         ensures gives { (p : Params) (run : Groups) (views : List ViewerRun) → half ≡ half_of p.clock
-            → pictures_in cast.old ≡ period_of p.clock → HoldsBroadcast p cast.old run
+            → cast_period cast.old ≡ period_of p.clock → HoldsBroadcast p cast.old run
             → AllWatch p run (viewers_in self.old) views
             → OwnGives result said p run (view_in views said.place)
             (λ run view. AllWatch p run (viewers_in self.new) (slice_set views said.place view))

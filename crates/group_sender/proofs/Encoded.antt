@@ -5,10 +5,10 @@ use Rattle.std.specs.Option.{option_map}
 use Rattle.std.proofs.lemmas.Bool.{eq-eqb, eqb-true}
 use Rattle.std.proofs.lemmas.Option.{slice_get_cases}
 use Rattle.std.proofs.Math.Nat.{mod-lt}
-use Rattle.call_model.specs.Coding.{Rules, period, Slice, has_mb, mb_at, Pictures, Encoding, Coding, pictures_of, reconstruction, reconstruction_of_slices, mb_among}
+use Rattle.call_model.specs.Coding.{Rules, period, Slice, has_mb, mb_at, Pictures, Encoding, Coding, pictures_of, decoded_picture, reconstruction_of_slices, mb_among}
 use Rattle.call_model.specs.CodedPictures.{Coded}
-use Rattle.call_model.specs.Sending.{header_of, packets_of, packets_before}
-use Rattle.call_model.specs.Sound.{IsPacket}
+use Rattle.call_model.specs.Sending.{header_of, packets_at, packets_before}
+use Rattle.call_model.specs.Sound.{IsPacketOfSlice}
 use Rattle.call_model.specs.Lawful.{Divides, IsMade, IsChosen, IsPictures, IsCoding, IsRules, FitsHeader}
 
 -- ---- lists
@@ -72,7 +72,7 @@ module _ {Frame Style Mb Picture MessageFault : Type 0} (pictures : Pictures Sty
   -- the picture by its slices is the picture by its macroblocks
   pub picture_by_slices : IsPictures pictures rules
       → (style : Style) (reference : Option Picture) (slices : List (Slice Mb)) (mbs : List Mb)
-      → Divides pictures.skip rules.mbs slices mbs → reconstruction pictures style reference mbs
+      → Divides pictures.skip rules.mbs slices mbs → decoded_picture pictures style reference mbs
       ≡ reconstruction_of_slices pictures style reference slices
   picture_by_slices lawful style reference slices mbs divides =
       lawful.picture_same _ _ (λ s inside. ap (λ (mb : Mb). pictures.reconstructed_sample style reference mb s)
@@ -95,9 +95,9 @@ module _ {Frame Style Mb Picture Fault MessageFault : Type 0}
     (coding : Coding Frame Style Mb Picture Fault MessageFault) (rules : Rules) (lawful : IsCoding coding rules)
     (ruled : IsRules rules) where
   packets_of_is : (coded : List (Coded Style Mb Picture)) (n : ℕ) (x : Coded Style Mb Picture)
-      → slice_get coded n ≡ Some x → packets_of coding.encoding rules coded n
+      → slice_get coded n ≡ Some x → packets_at coding.encoding rules coded n
       ≡ coding.encoding.packets n (packets_before (take n coded)) (header_of rules n x) x.slices
-  unfolding packets_of
+  unfolding packets_at
   packets_of_is coded n x at_n = rw at_n refl
 
   header_fits : (n : ℕ) (x : Coded Style Mb Picture) → FitsHeader rules (is_some x.reference) (header_of rules n x)
@@ -147,7 +147,7 @@ module _ {Frame Style Mb Picture Fault MessageFault : Type 0}
   -- the packets of a picture are read as its slices
   pub packet_is_read : (coded : List (Coded Style Mb Picture)) (n j : ℕ) (x : Coded Style Mb Picture)
       → slice_get coded n ≡ Some x → IsOfEncoder (pictures_of coding) coding.encoding x
-      → IsPacket coding.decoding rules (packets_of coding.encoding rules coded n) n j x
+      → IsPacketOfSlice coding.decoding rules (packets_at coding.encoding rules coded n) n j x
   packet_is_read coded n j x at_n one = record {
     read_as = λ slice at_j.
         let got = written_again n (packets_before (take n coded)) j x slice one at_j in

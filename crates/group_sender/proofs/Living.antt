@@ -13,7 +13,7 @@ use Rattle.call_model.specs.Coding.{Rules, Coding, Message, pictures_of, reconst
 use Rattle.call_model.specs.CodedPictures.{Coded, capture, depth_at, is_among, picture_at, reference_for}
 use Rattle.call_model.specs.IdealCall.{Event, Send, Play, Back, NumberedMessage, Call, Source, AllMayHappenFrom, about, call_from, told_full}
 use Rattle.call_model.specs.Lawful.{IsChosen, IsCoding, IsMade, IsPace, IsRules}
-use Rattle.call_model.specs.Sending.{bytes_in, known_by_feedback, last_sizes, made_known, packets_of}
+use Rattle.call_model.specs.Sending.{bytes_together, known_by_feedback, last_sizes, made_known, packets_at}
 use Rattle.call_model.specs.Says.{SaysAsTheCall}
 use Rattle.call_model.specs.Sound.{AllSound, AnySoundSender, IsSoundPicture}
 use Rattle.call_model.specs.TwoStores.{travelling}
@@ -150,7 +150,7 @@ module _ {Frame Style Mb Picture Fault MessageFault : Type 0}
   source = lived_source joined blank final
 
   abbrev packets : List (Coded Style Mb Picture) → ℕ → List (List ℕ)
-  packets coded n = packets_of coding.encoding rules final n
+  packets coded n = packets_at coding.encoding rules final n
 
   abbrev call : List Event → Call Style Mb Picture
   call past = call_from (pictures_of coding) rules source past
@@ -233,7 +233,7 @@ module _ {Frame Style Mb Picture Fault MessageFault : Type 0}
   sizes_few : (coded : List (Coded Style Mb Picture)) → length (last_sizes coding.encoding rules coded) ≤ 16
   sizes_few coded =
       let long : length (last_sizes coding.encoding rules coded) ≡ length coded - (length coded - 16) =
-      length-map-range_with_len (λ n. bytes_in (packets_of coding.encoding rules coded n)) (length coded - 16)
+      length-map-range_with_len (λ n. bytes_together (packets_at coding.encoding rules coded n)) (length coded - 16)
       (length coded - (length coded - 16))
       in
       omega (arith, long)
@@ -450,7 +450,7 @@ group_is_heard coding rules lawful ruled greatest_is follow says k before lived 
     let at = goes coding rules lawful ruled greatest_is follow k before frame quant range coded count placed lived fair
     near (λ n x is. is) in
     record {
-      says = says_the_notes coding rules follow says _ (λ _ n. packets_of coding.encoding rules coded n) count _ near
+      says = says_the_notes coding rules follow says _ (λ _ n. packets_at coding.encoding rules coded n) count _ near
           at.sound;
       knows = at.knows;
     }

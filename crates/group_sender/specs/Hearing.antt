@@ -6,7 +6,7 @@ use Rattle.call_model.specs.CodedPictures.{Coded, capture}
 use Rattle.call_model.specs.IdealCall.{Event, Deliver, Play, Call, Source, AllMayHappenFrom, call_from}
 use Rattle.call_model.specs.JoinedRun.{SaidMessage, said_at_play, said_to}
 use Rattle.call_model.specs.Receiving.{heard}
-use Rattle.call_model.specs.Sending.{packets_of}
+use Rattle.call_model.specs.Sending.{packets_at}
 use Rattle.call_model.specs.Sound.{Packets, received}
 use Rattle.call_model.specs.TwoStores.{told_of}
 use Rattle.group_sender.specs.InACall.{AreLived, Lived, group_entries, lived_events, lived_source}
@@ -29,9 +29,9 @@ module _ {Frame Style Mb Picture Fault MessageFault : Type 0}
 
   -- It says the messages of its call, as they travel; and the group knows of it what the call's sender
   -- knows.
-  pub record IsHeard (k : ℕ) (source : Source Style Mb Picture) (run : GroupRun Style Mb Picture)
+  pub record HearsReceiver (k : ℕ) (source : Source Style Mb Picture) (run : GroupRun Style Mb Picture)
       (past : List Event) : Type 0 where
-    pub says : says_in source (λ _ n. packets_of coding.encoding rules run.coded n) past
+    pub says : says_in source (λ _ n. packets_at coding.encoding rules run.coded n) past
         ≡ map (told_of coding.encoding.write_message rules) (call_from (pictures_of coding) rules source past).said
     pub knows : (party_at run.parties k).told ≡ (call_from (pictures_of coding) rules source past).known
 
@@ -46,4 +46,4 @@ module _ {Frame Style Mb Picture Fault MessageFault : Type 0}
       let source = lived_source joined (capture pictures coding.encoding quant frame [] None) run.coded in
       k < length first.parties → (0 < quant) × (quant < 32) → AreLived coding rules k joined source lived
       → AllMayHappenFrom pictures rules source count (lived_events joined lived)
-      → IsHeard k source run (lived_events joined lived)
+      → HearsReceiver k source run (lived_events joined lived)

@@ -6,14 +6,14 @@ use Rattle.h263_types.specs.declared.params.Params.{Params}
 use Rattle.h263_planes.specs.Picture.{Picture}
 use Rattle.back_messages.specs.declared.message.MessageFault.{MessageFault}
 use Rattle.call_model.specs.CodedPictures.{Coded as CodedPicture}
-use Rattle.call_model.specs.Sending.{Reply, feedback_answer, packets_of}
+use Rattle.call_model.specs.Sending.{Reply, feedback_answer, packets_at}
 use Rattle.call_decoding.specs.Rules.{rules_of}
 use Rattle.call_decoding.specs.Samples.{pictures}
 use Rattle.call_decoding.specs.Styles.{Style}
 use Rattle.call_encoding.specs.Encoding.{encoding}
 use Rattle.call_encoding.specs.Frames.{Frame}
 use Rattle.call_encoding.specs.Messages.{read_message}
-use Rattle.sender_end.specs.Stands.{Holds, Run}
+use Rattle.sender_end.specs.Stands.{Holds, SentRun}
 use Rattle.group_sender.specs.declared.group.Group.{Group}
 use Rattle.group_sender.specs.Parties.{party_at}
 use Rattle.group_sender.specs.Running.{GroupRun, after_capture_for_all, after_feedback_of, next_for_all}
@@ -24,7 +24,7 @@ abbrev pub Groups : Type 0
 Groups = GroupRun Style Mb Picture
 
 -- its pictures alone: what its sender has done, which is told of no message
-abbrev pub pictures_alone : Groups → Run
+abbrev pub pictures_alone : Groups → SentRun
 pictures_alone run = record { run = record { coded = run.coded; known = [] }; since = 0 }
 
 -- The group holds this run: its sender has coded the pictures, and its places stand for the
@@ -55,4 +55,4 @@ answer_to p k bytes run =
 
 -- the packets of the last picture
 abbrev pub group_packets : Params → Groups → List (List ℕ)
-group_packets p run = packets_of (encoding p) (rules_of p) run.coded (length run.coded - 1)
+group_packets p run = packets_at (encoding p) (rules_of p) run.coded (length run.coded - 1)

@@ -4,7 +4,7 @@ use Rattle.call_model.specs.Coding.{Rules, Coding, pictures_of}
 use Rattle.call_model.specs.CodedPictures.{Coded, capture}
 use Rattle.call_model.specs.IdealCall.{Event, Send, Deliver, Play, Back, NumberedMessage, Source, AllMayHappenFrom, call_from}
 use Rattle.call_model.specs.Lawful.{IsPace}
-use Rattle.call_model.specs.Sending.{packets_of}
+use Rattle.call_model.specs.Sending.{packets_at}
 use Rattle.call_model.specs.Sound.{FollowsTheCall}
 use Rattle.call_model.specs.TwoStores.{travelling}
 use Rattle.group_sender.specs.Running.{GroupEntry, CaptureAll, FeedbackOf, JoinsAt, LeavesAt, group_run}
@@ -82,7 +82,7 @@ module _ {Frame Style Mb Picture Fault MessageFault : Type 0}
   -- pictures, from the joining on, are the group's.
   pub record FollowsTheGroup (joined count : ℕ) (source : Source Style Mb Picture)
       (coded : List (Coded Style Mb Picture)) (past : List Event) : Type 0 where
-    pub follows : FollowsTheCall coding.decoding rules source (λ _ n. packets_of coding.encoding rules coded n) count
+    pub follows : FollowsTheCall coding.decoding rules source (λ _ n. packets_at coding.encoding rules coded n) count
         past
     pub own : (n : ℕ) → joined ≤ n
         → slice_get (call_from (pictures_of coding) rules source past).coded n ≡ slice_get coded n

@@ -11,8 +11,8 @@ use Rattle.h263_bits.specs.declared.fault.FaultKind.{FaultKind}
 use Rattle.h263_bits.specs.declared.fault.FaultKind.TheVariants.{Ended, BadCode}
 use Rattle.h263_bits.specs.Bits.{number, spelled}
 use Rattle.h263_bits.specs.Reading.{Bits, Gives, err, skip, number_at, ◌>>=◌}
-use Rattle.h263_bits.specs.Syntax.{Syntax, Allowed, only, IsIn, Words, begins, found, is_cut, taken, is_prefix_free, Turn, again, finally, done, field, code, part, element, repeat, refused, field_at, word_at, standing_at, turned, turns_at, Spells, reading, IsProductive}
-use Rattle.h263_bits.specs.Elements.{IsFieldFault, IsWordOf, IsCutWord, IsNoWord, IsWordFault, FaultTurns, Faults, IsFirstFault, HasFault, EndsWithFault}
+use Rattle.h263_bits.specs.Syntax.{Syntax, Allowed, only, IsIn, Words, begins, found, is_cut, word_taken, is_prefix_free, LoopTurn, again, finally, done, field, code, part, element, repeat, refused, field_at, word_at, standing_at, repeat_turned, turns_at, Spells, reading, IsProductive}
+use Rattle.h263_bits.specs.Elements.{IsFieldFault, IsWordOf, IsCutWord, IsNoWord, IsWordFault, FaultTurns, ElementFaults, IsFirstFault, HasFault, EndsWithFault}
 use Rattle.h263_bits.proofs.BitLists.{length-spelled}
 use Rattle.h263_bits.proofs.SyntaxTexts.{err_not_ok, standing_ok, Between, long_is, number_takes, number_again, field_takes, field_again, begins_parts, begins_itself, both_begin, apart_at, found_in, found_again, word_takes, word_again, sound, complete, turn_shorter, repeat-again}
 
@@ -173,7 +173,7 @@ word_fault {S} words b d e = at_found (found words b.bits) refl e
         let same : stands BadCode b.at ≡ d = err_is {A = S × Bits} (stands BadCode b.at) d e in
         (sym (ap (λ (f : Fault). f.at) same), inr (no_word words b.bits h c, sym (ap (λ (f : Fault). f.kind) same)))
 
-    at_found : (o : Option (List Bool × S)) → found words b.bits ≡ o → taken words b o ≡ Err d
+    at_found : (o : Option (List Bool × S)) → found words b.bits ≡ o → word_taken words b o ≡ Err d
         → (d.at ≡ b.at) × IsWordFault (λ w. IsWordOf words w) b.bits d.kind
     at_found None h e = at_cut (is_cut words b.bits) refl h e
     at_found (Some w) h e = absurd (err_not_ok d (w.1, skip (length w.0) b) (sym e))
@@ -342,9 +342,9 @@ exact_words {A} s IsWord member apart fault b d = (λ e. fault b d e, λ h. at_r
 
 -- ---- whole syntaxes
 
-turns_fault : {S A : Type 0} (spells : S → Turn S A → List Bool → Type 0) (fails : S → List Bool → List Bool
-    → Type 0) (body : S → Bits → Result (Turn S A × Bits) Fault) (d : Fault)
-    → ((t : S) (b c : Bits) (x : Turn S A) → body t b ≡ Ok (x, c) → (text : List Bool) × Between b text c
+turns_fault : {S A : Type 0} (spells : S → LoopTurn S A → List Bool → Type 0) (fails : S → List Bool → List Bool
+    → Type 0) (body : S → Bits → Result (LoopTurn S A × Bits) Fault) (d : Fault)
+    → ((t : S) (b c : Bits) (x : LoopTurn S A) → body t b ≡ Ok (x, c) → (text : List Bool) × Between b text c
     × spells t x text)
     → ((t : S) (b : Bits) → body t b ≡ Err d → (front left : List Bool) × (b.bits ≡ front ++ left)
     × (d.at ≡ b.at + length front) × fails t front left)
@@ -354,13 +354,13 @@ turns_fault : {S A : Type 0} (spells : S → Turn S A → List Bool → Type 0) 
     × FaultTurns spells fails n s front left
 turns_fault spells fails body d whole each shorter zero s b lt e = absurd (omega arith)
 turns_fault {S} {A} spells fails body d whole each shorter (suc fuel) s b lt e =
-    elim (bind_err (body s b) (λ x. turned (turns_at body fuel) x.0 x.1) d e) [
+    elim (bind_err (body s b) (λ x. repeat_turned (turns_at body fuel) x.0 x.1) d e) [
       | inl h ↦ let f = each s b h in (f.0, f.1, f.2, f.3, 0, f.4)
       | inr h ↦ after h.0.0 h.0.1 h.1 h.2 (λ t c g r. turns_fault spells fails body d whole each shorter fuel t c
           (omega (arith, shorter s t b c g)) r)
     ]
   where
-    after : (x : Turn S A) (c : Bits) → body s b ≡ Ok (x, c) → turned (turns_at body fuel) x c ≡ Err d
+    after : (x : LoopTurn S A) (c : Bits) → body s b ≡ Ok (x, c) → repeat_turned (turns_at body fuel) x c ≡ Err d
         → ((t : S) (c : Bits) → body s b ≡ Ok (again t, c) → turns_at body fuel t c ≡ Err d → (front left : List Bool)
         × (c.bits ≡ front ++ left) × (d.at ≡ c.at + length front) × (n : ℕ)
         × FaultTurns spells fails n t front left)
@@ -376,7 +376,7 @@ turns_fault {S} {A} spells fails body d whole each shorter (suc fuel) s b lt e =
 -- A fault that a reader answers is the first one.
 pub fault_found : {A : Type 0} (s : Syntax A) (b : Bits) (d : Fault) → IsProductive s → reading s b ≡ Err d
     → IsFirstFault s b d
-unfolding reading Faults IsProductive
+unfolding reading ElementFaults IsProductive
 fault_found (done x) b d each e = absurd (err_not_ok d (x, b) (sym e))
 fault_found (field n allowed next) b d each e =
     elim (bind_err (field_at n allowed b) (λ x. reading (next x.0) x.1) d e) [
@@ -428,7 +428,7 @@ fault_found (element s allowed next) b d each e =
             b.bits,
             refl,
             c.3 ∙ sym (add-zero b.at),
-            inl (refl, f.0, f.1, f.2, subst (λ (k : FaultKind). Faults s f.0 f.1 k) c.2 f.4),
+            inl (refl, f.0, f.1, f.2, subst (λ (k : FaultKind). ElementFaults s f.0 f.1 k) c.2 f.4),
           )
       | inr h ↦
           let x = h.0 in
@@ -449,16 +449,16 @@ fault_found (element s allowed next) b d each e =
           ]
     ]
 fault_found (repeat s body) b d each e =
-    let m = turns_fault (λ t x text. Spells (body t) x text) (λ t f l. Faults (body t) f l d.kind)
+    let m = turns_fault (λ t x text. Spells (body t) x text) (λ t f l. ElementFaults (body t) f l d.kind)
     (λ t c. reading (body t) c) d
     (λ t c f x h. sound (body t) c f x h) (λ t c h. fault_found (body t) c d (each.1 t) h)
     (λ t u c f h. turn_shorter t u body c f each.0 h)
     (suc (length b.bits)) s b (omega arith) e in
     (m.0, m.1, m.2, m.3, (m.4, m.5))
 
-turns_fault_again : {S A : Type 0} (spells : S → Turn S A → List Bool → Type 0) (fails : S → List Bool → List Bool
-    → Type 0) (body : S → Bits → Result (Turn S A × Bits) Fault) (kind : FaultKind)
-    → ((t : S) (x : Turn S A) (text rest : List Bool) (at : ℕ) → spells t x text
+turns_fault_again : {S A : Type 0} (spells : S → LoopTurn S A → List Bool → Type 0) (fails : S → List Bool → List Bool
+    → Type 0) (body : S → Bits → Result (LoopTurn S A × Bits) Fault) (kind : FaultKind)
+    → ((t : S) (x : LoopTurn S A) (text rest : List Bool) (at : ℕ) → spells t x text
     → body t (record { at = at; bits = text ++ rest }) ≡ Ok (x, record { at = at + length text; bits = rest }))
     → ((t : S) (front left : List Bool) (at : ℕ) → fails t front left
     → body t (record { at = at; bits = front ++ left }) ≡ Err (record { kind = kind; at = at + length front }))
@@ -491,9 +491,9 @@ turns_fault_again {S} {A} spells fails body kind whole each some (suc n) (suc fu
 
 -- The first fault is the one that a reader answers.
 pub fault_again : {A : Type 0} (s : Syntax A) (at : ℕ) (front left : List Bool) (kind : FaultKind) → IsProductive s
-    → Faults s front left kind
+    → ElementFaults s front left kind
     → reading s (record { at = at; bits = front ++ left }) ≡ Err (record { kind = kind; at = at + length front })
-unfolding reading Faults IsProductive
+unfolding reading ElementFaults IsProductive
 fault_again (done x) at front left kind each h = absurd h
 fault_again (field n allowed next) at front left kind each h =
     elim h [
@@ -567,7 +567,7 @@ fault_again (element s allowed next) at front left kind each h =
           ]
     ]
 fault_again (repeat s body) at front left kind each h =
-    turns_fault_again (λ t x text. Spells (body t) x text) (λ t f l. Faults (body t) f l kind)
+    turns_fault_again (λ t x text. Spells (body t) x text) (λ t f l. ElementFaults (body t) f l kind)
     (λ t c. reading (body t) c) kind
     (λ t x text rest k g. complete (body t) x text rest k (each.1 t) g) (λ t f l k g. fault_again (body t) k f l kind
     (each.1 t) g) each.0
@@ -700,12 +700,12 @@ fault_after_element s allowed next x front text kind place each spelt none h =
       add_assoc at (length front) place,
     ) refl
 
-pub fault_in_turn : {S A : Type 0} (s : S) (body : S → Syntax (Turn S A)) (text : List Bool) (kind : FaultKind)
+pub fault_in_turn : {S A : Type 0} (s : S) (body : S → Syntax (LoopTurn S A)) (text : List Bool) (kind : FaultKind)
     (place : ℕ) → HasFault (body s) text kind place → HasFault (repeat s body) text kind place
 unfolding reading
 fault_in_turn s body text kind place h = λ at rest. rw (h at rest) refl
 
-pub fault_after_turn : {S A : Type 0} (s t : S) (body : S → Syntax (Turn S A)) (front text : List Bool)
+pub fault_after_turn : {S A : Type 0} (s t : S) (body : S → Syntax (LoopTurn S A)) (front text : List Bool)
     (kind : FaultKind) (place : ℕ) → IsProductive (body s) → ((t u : S) → Spells (body t) (again u) [] → ⊥)
     → Spells (body s) (again t) front → HasFault (repeat t body) text kind place
     → HasFault (repeat s body) (front ++ text) kind (length front + place)

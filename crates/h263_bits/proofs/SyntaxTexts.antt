@@ -13,7 +13,7 @@ use Rattle.h263_bits.specs.declared.writer.BitWriter.{BitWriter}
 use Rattle.h263_bits.specs.Bits.{bits_of, number, spelled, fields}
 use Rattle.h263_bits.specs.Written.{Appends, written}
 use Rattle.h263_bits.specs.Reading.{Bits, bits_between, Gives, Takes, ok, err, first_fault, skip, number_at, ◌>>=◌}
-use Rattle.h263_bits.specs.Syntax.{Syntax, Allowed, IsIn, Words, begins, found, is_cut, taken, is_prefix_free, Turn, again, finally, done, field, code, part, element, repeat, refused, field_at, word_at, standing_at, turned, turns_at, either, Turns, Spells, reading, IsProductive}
+use Rattle.h263_bits.specs.Syntax.{Syntax, Allowed, IsIn, Words, begins, found, is_cut, word_taken, is_prefix_free, LoopTurn, again, finally, done, field, code, part, element, repeat, refused, field_at, word_at, standing_at, repeat_turned, turns_at, either, Turns, Spells, reading, IsProductive}
 use Rattle.h263_bits.proofs.BitLists.{length-spelled, length-bits_of, number-lt, number-spelled, spelled-number, length-window, drop-window}
 
 -- the value of a step that did not fail
@@ -212,7 +212,7 @@ pub word_takes : {S : Type 0} (words : List (List Bool × S)) (x : S) (b c : Bit
 unfolding word_at
 word_takes {S} words x b c e = at_found (found words b.bits) refl e
   where
-    at_found : (o : Option (List Bool × S)) → found words b.bits ≡ o → taken words b o ≡ Ok (x, c)
+    at_found : (o : Option (List Bool × S)) → found words b.bits ≡ o → word_taken words b o ≡ Ok (x, c)
         → (w : List Bool) × IsIn (w, x) words × Between b w c
     at_found None h e = absurd (cut (is_cut words b.bits) e)
       where
@@ -245,20 +245,20 @@ word_again words w x at rest apart h = rw (found_again words (w, x) rest apart h
 pub Finds : {A : Type 0} → (A → List Bool → Type 0) → Bits → Bits → A → Type 0
 Finds spells b c a = (text : List Bool) × Between b text c × spells a text
 
-turns_sound : {S A : Type 0} (spells : S → Turn S A → List Bool → Type 0) (body : S → Bits
-    → Result (Turn S A × Bits) Fault)
-    → ((t : S) (b c : Bits) (x : Turn S A) → body t b ≡ Ok (x, c) → (text : List Bool) × Between b text c
+turns_sound : {S A : Type 0} (spells : S → LoopTurn S A → List Bool → Type 0) (body : S → Bits
+    → Result (LoopTurn S A × Bits) Fault)
+    → ((t : S) (b c : Bits) (x : LoopTurn S A) → body t b ≡ Ok (x, c) → (text : List Bool) × Between b text c
     × spells t x text)
     → (fuel : ℕ) (s : S) (b c : Bits) (a : A) → turns_at body fuel s b ≡ Ok (a, c)
     → (text : List Bool) × Between b text c × (n : ℕ) × Turns spells n s a text
 turns_sound spells body each zero s b c a e = absurd cc
 turns_sound {S} {A} spells body each (suc fuel) s b c a e =
-    let one = bind_ok (body s b) (λ x. turned (turns_at body fuel) x.0 x.1) (a, c) e in
+    let one = bind_ok (body s b) (λ x. repeat_turned (turns_at body fuel) x.0 x.1) (a, c) e in
     let first = each s b one.0.1 one.0.0 one.1 in
     after one.0.0 one.0.1 first.0 first.1 first.2 one.2 (λ t d h. turns_sound spells body each fuel t d c a h)
   where
-    after : (x : Turn S A) (d : Bits) (front : List Bool) → Between b front d → spells s x front
-        → turned (turns_at body fuel) x d ≡ Ok (a, c)
+    after : (x : LoopTurn S A) (d : Bits) (front : List Bool) → Between b front d → spells s x front
+        → repeat_turned (turns_at body fuel) x d ≡ Ok (a, c)
         → ((t : S) (d : Bits) → turns_at body fuel t d ≡ Ok (a, c) → (text : List Bool) × Between d text c × (n : ℕ)
         × Turns spells n t a text)
         → (text : List Bool) × Between b text c × (n : ℕ) × Turns spells n s a text
@@ -319,9 +319,9 @@ sound (repeat s body) b c a e =
 abbrev from : ℕ → List Bool → Bits
 from at bits = record { at = at; bits = bits }
 
-turns_complete : {S A : Type 0} (spells : S → Turn S A → List Bool → Type 0) (body : S → Bits
-    → Result (Turn S A × Bits) Fault)
-    → ((t : S) (x : Turn S A) (text rest : List Bool) (at : ℕ) → spells t x text
+turns_complete : {S A : Type 0} (spells : S → LoopTurn S A → List Bool → Type 0) (body : S → Bits
+    → Result (LoopTurn S A × Bits) Fault)
+    → ((t : S) (x : LoopTurn S A) (text rest : List Bool) (at : ℕ) → spells t x text
     → body t (record { at = at; bits = text ++ rest }) ≡ Ok (x, record { at = at + length text; bits = rest }))
     → ((t u : S) → spells t (again u) [] → ⊥)
     → (n fuel : ℕ) (s : S) (a : A) (text rest : List Bool) (at : ℕ) → Turns spells n s a text → length text < fuel
@@ -490,13 +490,13 @@ unfolding Spells
 spells_element s allowed next a x front rest first free h = (x, front, rest, refl, first, free, h)
 
 -- the last turn of a repeated part
-pub spells_last : {S A : Type 0} (s : S) (body : S → Syntax (Turn S A)) (a : A) (bits : List Bool)
+pub spells_last : {S A : Type 0} (s : S) (body : S → Syntax (LoopTurn S A)) (a : A) (bits : List Bool)
     → Spells (body s) (finally a) bits → Spells (repeat s body) a bits
 unfolding Spells
 spells_last s body a bits h = (0, h)
 
 -- a turn before the others
-pub spells_turn : {S A : Type 0} (s t : S) (body : S → Syntax (Turn S A)) (a : A) (front rest : List Bool)
+pub spells_turn : {S A : Type 0} (s t : S) (body : S → Syntax (LoopTurn S A)) (a : A) (front rest : List Bool)
     → Spells (body s) (again t) front → Spells (repeat t body) a rest → Spells (repeat s body) a (front ++ rest)
 unfolding Spells
 spells_turn s t body a front rest first more = (suc more.0, (t, front, rest, refl, first, more.1))
@@ -557,7 +557,7 @@ length-fields (f ∷ fs) =
 
 -- ---- repeated parts, for loops
 
-turns-fuel : {S A : Type 0} (body : S → Bits → Result (Turn S A × Bits) Fault)
+turns-fuel : {S A : Type 0} (body : S → Bits → Result (LoopTurn S A × Bits) Fault)
     → ((t u : S) (b c : Bits) → body t b ≡ Ok (again u, c) → length c.bits < length b.bits)
     → (n m : ℕ) (s : S) (b : Bits) → length b.bits < n → length b.bits < m → turns_at body n s b ≡ turns_at body m s b
 turns-fuel body shorter zero m s b p q = absurd (omega arith)
@@ -566,15 +566,15 @@ turns-fuel {S} {A} body shorter (suc n) (suc m) s b p q =
     at_turn (body s b) refl (λ u c h. turns-fuel body shorter n m u c (omega (arith, shorter s u b c h))
     (omega (arith, shorter s u b c h)))
   where
-    at_turn : (r : Result (Turn S A × Bits) Fault) → body s b ≡ r → ((u : S) (c : Bits) → body s b ≡ Ok (again u, c)
+    at_turn : (r : Result (LoopTurn S A × Bits) Fault) → body s b ≡ r → ((u : S) (c : Bits) → body s b ≡ Ok (again u, c)
         → turns_at body n u c ≡ turns_at body m u c)
-        → (r >>= λ x. turned (turns_at body n) x.0 x.1) ≡ (r >>= λ x. turned (turns_at body m) x.0 x.1)
+        → (r >>= λ x. repeat_turned (turns_at body n) x.0 x.1) ≡ (r >>= λ x. repeat_turned (turns_at body m) x.0 x.1)
     at_turn (Err e) h more = refl
     at_turn (Ok (finally a, c)) h more = refl
     at_turn (Ok (again u, c)) h more = more u c h
 
 -- a turn that goes on takes a bit
-pub turn_shorter : {S A : Type 0} (s u : S) (body : S → Syntax (Turn S A)) (b c : Bits)
+pub turn_shorter : {S A : Type 0} (s u : S) (body : S → Syntax (LoopTurn S A)) (b c : Bits)
     → ((t u : S) → Spells (body t) (again u) [] → ⊥) → reading (body s) b ≡ Ok (again u, c)
     → length c.bits < length b.bits
 turn_shorter {S} s u body b c some e =
@@ -586,7 +586,7 @@ turn_shorter {S} s u body b c some e =
     longer [] len spelt = absurd (some s u spelt)
     longer (t ∷ text) len spelt = omega arith
 
-pub repeat-again : {S A : Type 0} (s u : S) (body : S → Syntax (Turn S A)) (b c : Bits)
+pub repeat-again : {S A : Type 0} (s u : S) (body : S → Syntax (LoopTurn S A)) (b c : Bits)
     → ((t u : S) → Spells (body t) (again u) [] → ⊥) → reading (body s) b ≡ Ok (again u, c)
     → reading (repeat s body) b ≡ reading (repeat u body) c
 unfolding reading
@@ -595,12 +595,12 @@ repeat-again s u body b c some e =
     rw e (turns-fuel (λ t d. reading (body t) d) (λ t v d f h. turn_shorter t v body d f some h) (length b.bits)
     (suc (length c.bits)) u c less (omega arith))
 
-pub repeat-finally : {S A : Type 0} (s : S) (a : A) (body : S → Syntax (Turn S A)) (b c : Bits)
+pub repeat-finally : {S A : Type 0} (s : S) (a : A) (body : S → Syntax (LoopTurn S A)) (b c : Bits)
     → reading (body s) b ≡ Ok (finally a, c) → reading (repeat s body) b ≡ Ok (a, c)
 unfolding reading
 repeat-finally s a body b c e = rw e refl
 
-pub repeat-err : {S A : Type 0} (s : S) (fault : Fault) (body : S → Syntax (Turn S A)) (b : Bits)
+pub repeat-err : {S A : Type 0} (s : S) (fault : Fault) (body : S → Syntax (LoopTurn S A)) (b : Bits)
     → reading (body s) b ≡ Err fault → reading (repeat s body) b ≡ Err fault
 unfolding reading
 repeat-err s fault body b e = rw e refl

@@ -9,7 +9,7 @@ use Rattle.h263_bits.specs.declared.fault.FaultKind.{FaultKind}
 use Rattle.h263_bits.specs.declared.fault.FaultKind.TheVariants.{Ended, BadCode}
 use Rattle.h263_bits.specs.Bits.{spelled}
 use Rattle.h263_bits.specs.Reading.{Bits}
-use Rattle.h263_bits.specs.Syntax.{Syntax, Allowed, IsIn, Turn, again, done, field, code, part, element, repeat, Spells, reading}
+use Rattle.h263_bits.specs.Syntax.{Syntax, Allowed, IsIn, LoopTurn, again, done, field, code, part, element, repeat, Spells, reading}
 
 -- ---- the fault of one element
 
@@ -45,7 +45,7 @@ IsRefused {S} spells allowed left kind =
 -- ---- the fault after a reading
 
 -- this many whole turns, and a turn with a fault
-abbrev pub FaultTurns : {S A : Type 0} → (S → Turn S A → List Bool → Type 0)
+abbrev pub FaultTurns : {S A : Type 0} → (S → LoopTurn S A → List Bool → Type 0)
     → (S → List Bool → List Bool → Type 0) → ℕ → S → List Bool → List Bool → Type 0
 FaultTurns turn fails zero s front left = fails s front left
 FaultTurns {S} turn fails (suc n) s front left =
@@ -53,34 +53,34 @@ FaultTurns {S} turn fails (suc n) s front left =
     × turn s (again t) text × (front ≡ text ++ rest) × FaultTurns turn fails n t rest left
 
 -- `front` are the bits of elements that have no fault, and with what is left after them an element begins that has one
-unfoldable pub Faults : {A : Type 0} → Syntax A → List Bool → List Bool → FaultKind → Type 0
-Faults (done x) front left kind = ⊥
-Faults (field n allowed next) front left kind =
+unfoldable pub ElementFaults : {A : Type 0} → Syntax A → List Bool → List Bool → FaultKind → Type 0
+ElementFaults (done x) front left kind = ⊥
+ElementFaults (field n allowed next) front left kind =
     ((front ≡ []) × IsFieldFault n allowed left kind)
     ⊎ ((v : ℕ) × (rest : List Bool) × (v < 2 ^ n)
-    × (allowed v ≡ None) × (front ≡ spelled n v ++ rest) × Faults (next v) rest left kind)
-Faults (code {S} words next) front left kind =
+    × (allowed v ≡ None) × (front ≡ spelled n v ++ rest) × ElementFaults (next v) rest left kind)
+ElementFaults (code {S} words next) front left kind =
     ((front ≡ []) × IsWordFault (λ w. IsWordOf words.list w) left kind)
     ⊎ ((word : List Bool) × (x : S) × (rest : List Bool)
-    × IsIn (word, x) words.list × (front ≡ word ++ rest) × Faults (next x) rest left kind)
-Faults (part {S} s allowed next) front left kind =
-    Faults s front left kind
+    × IsIn (word, x) words.list × (front ≡ word ++ rest) × ElementFaults (next x) rest left kind)
+ElementFaults (part {S} s allowed next) front left kind =
+    ElementFaults s front left kind
     ⊎ (((front ≡ []) × IsRefused (λ x text. Spells s x text) allowed left kind)
     ⊎ ((x : S) × (text rest : List Bool) × Spells s x text
-    × (allowed x ≡ None) × (front ≡ text ++ rest) × Faults (next x) rest left kind))
-Faults (element {S} s allowed next) front left kind =
-    ((front ≡ []) × (inner behind : List Bool) × (left ≡ inner ++ behind) × Faults s inner behind kind)
+    × (allowed x ≡ None) × (front ≡ text ++ rest) × ElementFaults (next x) rest left kind))
+ElementFaults (element {S} s allowed next) front left kind =
+    ((front ≡ []) × (inner behind : List Bool) × (left ≡ inner ++ behind) × ElementFaults s inner behind kind)
     ⊎ (((front ≡ []) × IsRefused (λ x text. Spells s x text) allowed left kind)
     ⊎ ((x : S) × (text rest : List Bool) × Spells s x text
-    × (allowed x ≡ None) × (front ≡ text ++ rest) × Faults (next x) rest left kind))
-Faults (repeat s body) front left kind =
-    (n : ℕ) × FaultTurns (λ t x text. Spells (body t) x text) (λ t f l. Faults (body t) f l kind) n s front left
+    × (allowed x ≡ None) × (front ≡ text ++ rest) × ElementFaults (next x) rest left kind))
+ElementFaults (repeat s body) front left kind =
+    (n : ℕ) × FaultTurns (λ t x text. Spells (body t) x text) (λ t f l. ElementFaults (body t) f l kind) n s front left
 
 -- the first fault of a syntax in bits from a place on: it stands after a reading
 abbrev pub IsFirstFault : {A : Type 0} → Syntax A → Bits → Fault → Type 0
 IsFirstFault s b fault =
     (front left : List Bool) × (b.bits ≡ front ++ left)
-    × (fault.at ≡ b.at + length front) × Faults s front left fault.kind
+    × (fault.at ≡ b.at + length front) × ElementFaults s front left fault.kind
 
 -- ---- a row of a table of faults
 

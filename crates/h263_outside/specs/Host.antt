@@ -21,9 +21,9 @@ silent_outside attached attaches reads writes flushed = record {
 }
 
 -- what is known of a file, where there is one
-abbrev pub told_of : {F : Type 0} → (F → Option (List ℕ)) → Option F → Option (List ℕ)
-told_of known None = None
-told_of known (Some file) = known file
+abbrev pub known_of_file : {F : Type 0} → (F → Option (List ℕ)) → Option F → Option (List ℕ)
+known_of_file known None = None
+known_of_file known (Some file) = known file
 
 abbrev pub no_faults : Faults
 no_faults = record { attach = 0; read = 0; write = 0 }
@@ -47,8 +47,8 @@ abbrev pub input_of : {R F D I A : Type 0} → Role → HostDesk R F D I A → O
 input_of role d = by_input d.video d.events d.video2 None role
 
 -- the file that a role writes; the report is standard output
-abbrev pub output_of : {R F D I A : Type 0} → Role → HostDesk R F D I A → Option F
-output_of role d = by_output d.pictures d.wire None d.pictures2 None role
+abbrev pub output_file : {R F D I A : Type 0} → Role → HostDesk R F D I A → Option F
+output_file role d = by_output d.pictures d.wire None d.pictures2 None role
 
 -- of an input no byte was read yet: what is left of it is what its file has
 abbrev pub IsUnread : {F : Type 0} → Option (InputFile F) → Type 0
@@ -58,9 +58,9 @@ IsUnread (Some input) = ahead_bytes input.ahead ≡ []
 -- each other role has the file that it had, and so the bytes of that file
 pub record KeepsOthers {R F D I A : Type 0} (role : Role) (old new : HostDesk R F D I A) : Type 0 where
   pub inputs : (r : Role) → r ≢ role → input_of r new ≡ input_of r old
-  pub outputs : (r : Role) → r ≢ role → output_of r new ≡ output_of r old
+  pub outputs : (r : Role) → r ≢ role → output_file r new ≡ output_file r old
 
 -- and so has each role
 pub record KeepsFiles {R F D I A : Type 0} (old new : HostDesk R F D I A) : Type 0 where
   pub inputs : (r : Role) → input_of r new ≡ input_of r old
-  pub outputs : (r : Role) → output_of r new ≡ output_of r old
+  pub outputs : (r : Role) → output_file r new ≡ output_file r old

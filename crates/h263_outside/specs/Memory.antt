@@ -115,8 +115,8 @@ count_told None = 0
 count_told (Some bytes) = length bytes
 
 -- an output with no room left
-abbrev pub IsFull : Role → Setup → (Role → Option (List ℕ)) → Type 0
-IsFull role s written = s.room role ≤ count_told (written role)
+abbrev pub IsOutputFull : Role → Setup → (Role → Option (List ℕ)) → Type 0
+IsOutputFull role s written = s.room role ≤ count_told (written role)
 
 -- how many bytes one call moves: all there is, a piece at most, and no more than it is given
 abbrev pub moved_count : ℕ → ℕ → ℕ → ℕ

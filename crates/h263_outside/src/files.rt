@@ -1,7 +1,7 @@
 //! One file of the host: its reads and writes, and how files are told apart.
 ghost use Rattle.std.specs.Prelude.{◌≡◌, ◌≤◌, ◌<◌, length, IfOk, is_some};
 ghost use Rattle.std.specs.Io.KnownBytes.{ReadConsumes, WriteAppends};
-ghost use Rattle.h263_outside.specs.Host.{told_of};
+ghost use Rattle.h263_outside.specs.Host.{known_of_file};
 
 use crate::Failed;
 use std::fs::{Metadata, OpenFile};
@@ -52,7 +52,7 @@ pub(crate) fn write_file<F: Write>(file: &mut Option<F>, bytes: &[u8]) -> Result
     ensures advances { IfOk result (λ k. 0 < k) }
     // The file gains as many bytes as the answer says, and none where the write fails.
     ensures bytes { WriteAppends
-        (told_of F.contents file.old) (told_of F.contents file.new) result bytes.now }
+        (known_of_file F.contents file.old) (known_of_file F.contents file.new) result bytes.now }
     ensures open { is_some file.new ≡ is_some file.old }
 {
     match file {

@@ -1,7 +1,7 @@
 //! The host's files and standard output: the trusted edge. What they hold is not told.
 ghost use Rattle.std.specs.Prelude.{◌≡◌, ◌≤◌, ◌<◌, length, IfOk};
 ghost use Rattle.std.specs.Io.KnownBytes.{ReadConsumes, WriteAppends};
-ghost use Rattle.h263_outside.specs.Host.{told_of};
+ghost use Rattle.h263_outside.specs.Host.{known_of_file};
 ghost use Rattle.h263_outside.specs.Desk.{NoneAttached};
 
 use crate::files::{has_file, is_kept, is_one, write_file};
@@ -213,7 +213,7 @@ fn print_some<R: Runtime>(rt: &R, bytes: &[u8]) -> Result<usize, Failed>
 
 impl<R: Runtime> Desk for HostDesk<R> {
     ghost use Rattle.std.specs.Prelude.{◌≢◌, true, false, take, IfSome, OnOk, OnErr, IsErrOf};
-    ghost use Rattle.h263_outside.specs.Host.{host_outside, input_left, input_of, output_of, IsUnread, KeepsOthers, KeepsFiles};
+    ghost use Rattle.h263_outside.specs.Host.{host_outside, input_left, input_of, output_file, IsUnread, KeepsOthers, KeepsFiles};
     ghost use Rattle.h263_outside.specs.Desk.{IsInput, IsOutput, IsFront, OnlyAttaches, OnlyReads, OnlyWrites, Rose, with_role, appended, consumed, raised_count};
 
     ghost outside = { host_outside };
@@ -273,8 +273,8 @@ impl<R: Runtime> Desk for HostDesk<R> {
         ensures rest { OnlyReads (host_outside self.old) (host_outside self.new) }
 
         // The role's input is read, as `read_input` says, and no other file.
-        ensures of_file { ReadConsumes (told_of (input_left R.File.remaining) (input_of role self.old))
-            (told_of (input_left R.File.remaining) (input_of role self.new)) result buf.new }
+        ensures of_file { ReadConsumes (known_of_file (input_left R.File.remaining) (input_of role self.old))
+            (known_of_file (input_left R.File.remaining) (input_of role self.new)) result buf.new }
         ensures others { KeepsOthers role self.old self.new }
 
         // The count rises by one where the call fails.
@@ -312,8 +312,8 @@ impl<R: Runtime> Desk for HostDesk<R> {
         ensures rest { OnlyWrites (host_outside self.old) (host_outside self.new) }
 
         // The role's file is written, as `write_file` says, and no other one.
-        ensures of_file { WriteAppends (told_of R.File.contents (output_of role self.old))
-            (told_of R.File.contents (output_of role self.new)) result bytes.now }
+        ensures of_file { WriteAppends (known_of_file R.File.contents (output_file role self.old))
+            (known_of_file R.File.contents (output_file role self.new)) result bytes.now }
         ensures others { KeepsOthers role self.old self.new }
 
         // The count rises by one where the call fails.

@@ -1,7 +1,7 @@
 //! A file that is read.
 ghost use Rattle.std.specs.Prelude.{◌≡◌, ◌≤◌, ℕ, length, List, [], Option, IfOk, is_some};
 ghost use Rattle.std.specs.Io.KnownBytes.{ReadConsumes};
-ghost use Rattle.h263_outside.specs.Host.{ahead_bytes, input_left, told_of};
+ghost use Rattle.h263_outside.specs.Host.{ahead_bytes, input_left, known_of_file};
 
 use crate::Failed;
 use crate::ahead::{Ahead, MOST_AHEAD};
@@ -66,8 +66,8 @@ pub(crate) fn read_input<F: Read>(
     ensures count { IfOk result (λ k. k ≤ length buf.old) }
     // What is read is a prefix of what the input had, nothing only at its end; where the read fails
     // nothing is lost.
-    ensures bytes { ReadConsumes (told_of (input_left F.remaining) input.old)
-        (told_of (input_left F.remaining) input.new) result buf.new }
+    ensures bytes { ReadConsumes (known_of_file (input_left F.remaining) input.old)
+        (known_of_file (input_left F.remaining) input.new) result buf.new }
     ensures open { is_some input.new ≡ is_some input.old }
 {
     match input {

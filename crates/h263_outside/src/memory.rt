@@ -345,7 +345,7 @@ impl MemoryDesk {
 #[tactic(auto, unfolding(crate::specs::Memory::memory_outside, crate::specs::Memory::setup_of))]
 impl Desk for MemoryDesk {
     ghost use Rattle.std.specs.Prelude.{Some};
-    ghost use Rattle.h263_outside.specs.Memory.{memory_outside, setup_of, after_call, FailsNext, LacksPut, IsFull, count_told, moved_count};
+    ghost use Rattle.h263_outside.specs.Memory.{memory_outside, setup_of, after_call, FailsNext, LacksPut, IsOutputFull, count_told, moved_count};
     ghost use Rattle.h263_outside.specs.Desk.{IsInput, IsOutput, with_role, appended, consumed, OnlyAttaches, OnlyReads, OnlyWrites};
 
     ghost outside = { memory_outside };
@@ -457,7 +457,7 @@ impl Desk for MemoryDesk {
             ((setup_of self.old).room role - count_told ((memory_outside self.old).written role))
             (setup_of self.old).piece (length bytes.now)) }
         ensures exactly { IsErr result ↔ (FailsNext (setup_of self.old)
-            ⊎ IsFull role (setup_of self.old) (memory_outside self.old).written) }
+            ⊎ IsOutputFull role (setup_of self.old) (memory_outside self.old).written) }
 
         // The count rises by one at `Failed`.
         ensures failed { OnErr result ((memory_outside self.new).faults

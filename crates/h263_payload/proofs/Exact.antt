@@ -15,18 +15,19 @@ use Rattle.picture_header.specs.Text.{header}
 use Rattle.picture_header.specs.Laws.{HeaderLaws}
 use Rattle.h263_payload.specs.declared.payload.Opening.{Opening}
 use Rattle.h263_payload.specs.declared.payload.Payload.{Payload}
-use Rattle.h263_payload.specs.Text.{opening, leading, IsExtra, IsBegun, IsPayload}
-use Rattle.h263_payload.specs.Ranges.{IsOpening}
+use Rattle.h263_payload.specs.Text.{payload_opening, leading, IsExtra, IsStartCodeRest, IsPayload}
+use Rattle.h263_payload.specs.Ranges.{IsPayloadOpening}
 use Rattle.h263_payload.specs.Faults.{first_bits, filled, extra_at, begun_as, begun_at, payload_at}
 
 -- ---- the first fields
 
 pub record IsLeading (o : Opening) (bits : List Bool) : Type 0 where
-  pub range : IsOpening o
+  pub range : IsPayloadOpening o
   pub long : 16 ≤ length bits
 
-opening_is : (follow_on : Bool) (o : Opening) (bits : List Bool) → Spells (opening follow_on) o bits → IsLeading o bits
-unfolding opening Spells
+opening_is : (follow_on : Bool) (o : Opening) (bits : List Bool) → Spells (payload_opening follow_on) o bits
+    → IsLeading o bits
+unfolding payload_opening Spells
 opening_is follow_on o bits s =
     let rr = s.5 in
     let p = rr.5 in
@@ -34,9 +35,9 @@ opening_is follow_on o bits s =
     let plen = v.5 in
     let value : Opening = record { p = rr.0 == 1; v = p.0 == 1; plen = v.0; pebit = plen.0 } in
     let same : o ≡ value = plen.5.0 in
-    let range : IsOpening value = record { plen = v.2; pebit = plen.2 } in
+    let range : IsPayloadOpening value = record { plen = v.2; pebit = plen.2 } in
     record {
-      range = subst IsOpening (sym same) range;
+      range = subst IsPayloadOpening (sym same) range;
       long = omega (
         arith,
         ap length s.4,
@@ -63,7 +64,7 @@ leading_is o bits s =
     let first = opening_is false s.0 s.1 s.4 in
     let same : o ≡ s.0 = value s.0.v s.2 s.6 in
     record {
-      range = subst IsOpening (sym same) first.range;
+      range = subst IsPayloadOpening (sym same) first.range;
       long = omega (arith, first.long, ap length s.3, length-append s.1 s.2);
     }
   where
@@ -73,7 +74,7 @@ leading_is o bits s =
     value false rest h = h.0
 
 pub leading_productive : IsProductive leading
-unfolding leading opening IsProductive
+unfolding leading payload_opening IsProductive
 leading_productive = (
   λ rr p v plen pebit. tt,
   λ o. either_productive o.v (field 8 any (λ redundancy. done o)) (done o)
@@ -163,7 +164,7 @@ extra_ok format plen pebit extra b low e = at_none (plen == 0) refl e
 -- ---- the data's first two bits
 
 record IsStart (extra : Option Header) (b : Bits) (p : Payload) : Type 0 where
-  begun : IsBegun p.begins b.bits
+  begun : IsStartCodeRest p.begins b.bits
   value : p ≡ record { extra = extra; begins = is_none extra; from = b.at }
 
 pub two_is : spelled 2 2 ≡ true ∷ false ∷ []
@@ -178,9 +179,9 @@ start_of : (extra : Option Header) (b : Bits) (p : Payload) (begins : Bool) (v :
     → b.bits ≡ spelled 2 v ++ c.bits → spelled 2 v ≡ true ∷ not begins ∷ [] → is_none extra ≡ begins
     → p ≡ record { extra = extra; begins = begins; from = b.at } → IsStart extra b p
 start_of extra b p begins v c parts two none value =
-    let coded : IsBegun begins b.bits = (c.bits, parts ∙ ap (λ (t : List Bool). t ++ c.bits) two) in
+    let coded : IsStartCodeRest begins b.bits = (c.bits, parts ∙ ap (λ (t : List Bool). t ++ c.bits) two) in
     record {
-      begun = subst (λ (q : Payload). IsBegun q.begins b.bits) (sym value) coded;
+      begun = subst (λ (q : Payload). IsStartCodeRest q.begins b.bits) (sym value) coded;
       value = value ∙ ap (λ (t : Bool). record { extra = extra; begins = t; from = b.at }) (sym none);
     }
 

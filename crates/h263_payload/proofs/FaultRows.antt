@@ -17,9 +17,9 @@ use Rattle.picture_header.specs.Text.{header, IsHeaderText}
 use Rattle.picture_header.specs.Laws.{HeaderLaws}
 use Rattle.h263_payload.specs.declared.payload.Opening.{Opening}
 use Rattle.h263_payload.specs.declared.payload.Payload.{Payload}
-use Rattle.h263_payload.specs.Text.{may_follow, opening, leading, IsPayload}
+use Rattle.h263_payload.specs.Text.{may_follow, payload_opening, leading, IsPayload}
 use Rattle.h263_payload.specs.Faults.{first_bits, filled, extra_at, begun_at, payload_at}
-use Rattle.h263_payload.specs.Rows.{from, Leads, Reaches, IsPayloadFault, in_leading, cut_extra, in_extra, left_over, cut_data, no_start, picture, slice}
+use Rattle.h263_payload.specs.Rows.{from, Leads, ReachesData, IsPayloadFault, in_leading, cut_extra, in_extra, left_over, cut_data, no_start, picture, slice}
 use Rattle.h263_payload.proofs.Exact.{leading_is, leading_productive, empty, extra_again, text_read, two_is, three_is}
 
 -- ---- what a row has is found
@@ -30,9 +30,9 @@ unfolding payload_at
 leading_row format b fault e = rw e refl
 
 pub p_row : (rr : ℕ) → rr < 32 → HasFault leading (fields ((5, rr) ∷ (1, 0) ∷ [])) faults.FollowOn 5
-unfolding leading opening
+unfolding leading payload_opening
 p_row rr lt =
-    fault_in_part (opening false) any _ (fields ((5, rr) ∷ (1, 0) ∷ [])) faults.FollowOn 5
+    fault_in_part (payload_opening false) any _ (fields ((5, rr) ∷ (1, 0) ∷ [])) faults.FollowOn 5
     (fault_after_field 5 any _ rr (fields ((1, 0) ∷ [])) faults.FollowOn 0 lt refl
     (fault_here 1 (may_follow false) _ 0 [] faults.FollowOn (omega arith) refl))
 
@@ -152,7 +152,7 @@ few_at extra at bits lt = rw (lt-ltb (length bits) 2 lt) refl
 
 -- after the extra header the data's fault is the payload's
 in_data : HeaderLaws → (format : Format) (b : Bits) (extra : Option Header) (at : ℕ) (coded : List Bool)
-    (kind : FaultKind) → Reaches format b extra at coded
+    (kind : FaultKind) → ReachesData format b extra at coded
     → begun_at extra (from at coded) ≡ Err (stands kind at) → payload_at format b ≡ Err (stands kind at)
 in_data laws format b extra at coded kind r fault =
     let o = r.opening in
@@ -191,7 +191,7 @@ Stands format b = ((kind : FaultKind) × (at : ℕ) × IsPayloadFault format b k
     ⊎ ((p : Payload) × IsPayload format p b)
 
 whole : (format : Format) (b : Bits) (extra : Option Header) (at : ℕ) (begins : Bool) (rest : List Bool)
-    → begins ≡ is_none extra → Reaches format b extra at (true ∷ not begins ∷ rest) → Stands format b
+    → begins ≡ is_none extra → ReachesData format b extra at (true ∷ not begins ∷ rest) → Stands format b
 whole format b extra at begins rest e r = inr (
   record { extra = extra; begins = begins; from = at },
   record {
@@ -209,7 +209,7 @@ whole format b extra at begins rest e r = inr (
 )
 
 at_data : (format : Format) (b : Bits) (extra : Option Header) (at : ℕ) (coded : List Bool)
-    → Reaches format b extra at coded → Stands format b
+    → ReachesData format b extra at coded → Stands format b
 at_data format b extra at [] r = inl (faults.Ended, at, cut_data extra at [] r (omega arith))
 at_data format b extra at (x ∷ []) r = inl (faults.Ended, at, cut_data extra at (x ∷ []) r (omega arith))
 at_data format b extra at (false ∷ second ∷ rest) r = inl (faults.NoStart, at, no_start extra at second rest r)

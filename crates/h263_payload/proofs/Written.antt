@@ -10,9 +10,9 @@ use Rattle.picture_header.specs.Ranges.{IsHeader}
 use Rattle.picture_header.specs.Written.{written_header, written_bits}
 use Rattle.picture_header.specs.Laws.{HeaderLaws}
 use Rattle.h263_payload.specs.declared.payload.Opening.{Opening}
-use Rattle.h263_payload.specs.Text.{opening, leading}
+use Rattle.h263_payload.specs.Text.{payload_opening, leading}
 use Rattle.h263_payload.specs.Faults.{payload_at}
-use Rattle.h263_payload.specs.Written.{opening_fields, written_payload, payload_bits, padding_of, bytes_of}
+use Rattle.h263_payload.specs.Written.{payload_opening_fields, written_payload, payload_bits, padding_of, header_size}
 use Rattle.h263_payload.proofs.Exact.{text_read}
 
 -- what is written
@@ -20,16 +20,16 @@ abbrev opening_of : ℕ → ℕ → Opening
 opening_of plen pebit = record { p = true; v = false; plen = plen; pebit = pebit }
 
 leading_spelt : (plen pebit : ℕ) → plen < 64 → pebit < 8
-    → Spells leading (opening_of plen pebit) (fields (opening_fields plen pebit))
-unfolding leading opening
+    → Spells leading (opening_of plen pebit) (fields (payload_opening_fields plen pebit))
+unfolding leading payload_opening
 leading_spelt plen pebit p q =
     let o = opening_of plen pebit in
-    let text = fields (opening_fields plen pebit) in
-    let fixed : Spells (opening false) o text =
+    let text = fields (payload_opening_fields plen pebit) in
+    let fixed : Spells (payload_opening false) o text =
     spells_field 5 any _ o 0 _ (omega arith) refl (spells_field 1 _ _ o 1 _ (omega arith) refl
     (spells_field 1 any _ o 0 _ (omega arith) refl
     (spells_field 6 any _ o plen _ p refl (spells_field 3 any _ o pebit _ q refl (spells_done o))))) in
-    spells_whole leading o _ _ (append-nil text) (spells_part (opening false) any _ o o text [] fixed refl
+    spells_whole leading o _ _ (append-nil text) (spells_part (payload_opening false) any _ o o text [] fixed refl
     (spells_done o))
 
 -- in front of a picture
@@ -50,7 +50,7 @@ picture_again laws format at rest =
       from = omega arith;
     })
 
-few_bytes : HeaderLaws → (h : Header) → IsHeader h → bytes_of h < 64
+few_bytes : HeaderLaws → (h : Header) → IsHeader h → header_size h < 64
 few_bytes laws h ok = omega (arith, laws.short h ok)
 
 -- in front of a later slice
@@ -58,18 +58,18 @@ pub slice_again : HeaderLaws → (h : Header) (at : ℕ) (rest : List Bool) → 
     → payload_at h.format (record { at = at; bits = written_payload (Some h) ++ true ∷ true ∷ rest })
     ≡ Ok (record { extra = Some h; begins = false; from = at + length (written_payload (Some h)) })
 slice_again laws h at rest ok =
-    let front = fields (opening_fields (bytes_of h) (padding_of h)) in
+    let front = fields (payload_opening_fields (header_size h) (padding_of h)) in
     let padding = spelled (padding_of h) 0 in
     let middle = written_header h ++ padding in
     let len : length middle ≡ length (written_header h) + padding_of h = length-append (written_header h) padding
     ∙ ap (λ (n : ℕ). length (written_header h) + n) (length-spelled (padding_of h) 0) in
     text_read laws h.format _ _ (record {
-      opening = opening_of (bytes_of h) (padding_of h);
+      opening = opening_of (header_size h) (padding_of h);
       front = front;
       middle = middle;
       coded = true ∷ true ∷ rest;
       parts = append_assoc front middle (true ∷ true ∷ rest);
-      opened = leading_spelt (bytes_of h) (padding_of h) (few_bytes laws h ok) (omega arith);
+      opened = leading_spelt (header_size h) (padding_of h) (few_bytes laws h ok) (omega arith);
       extra = (
         written_header h,
         padding,
@@ -85,17 +85,17 @@ slice_again laws h at rest ok =
     })
 
 pub length-written_payload : HeaderLaws → (extra : Option Header) → length (written_payload extra) ≡ payload_bits extra
-length-written_payload laws None = length-fields (opening_fields 0 0)
+length-written_payload laws None = length-fields (payload_opening_fields 0 0)
 length-written_payload laws (Some h) =
-    let front = fields (opening_fields (bytes_of h) (padding_of h)) in
+    let front = fields (payload_opening_fields (header_size h) (padding_of h)) in
     let padding = spelled (padding_of h) 0 in
-    let whole : 8 * bytes_of h ≡ written_bits h + padding_of h = omega arith in
+    let whole : 8 * header_size h ≡ written_bits h + padding_of h = omega arith in
     omega (
       arith,
       length-append front (written_header h ++ padding),
       length-append (written_header h) padding,
       length-spelled (padding_of h) 0,
       laws.length h,
-      length-fields (opening_fields (bytes_of h) (padding_of h)),
+      length-fields (payload_opening_fields (header_size h) (padding_of h)),
       whole,
     )

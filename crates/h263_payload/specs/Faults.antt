@@ -12,8 +12,8 @@ use Rattle.rtp_header.specs.declared.rtp.Rtp.{Rtp}
 use Rattle.h263_payload.specs.declared.payload.Payload.{Payload}
 use Rattle.h263_payload.specs.Text.{leading}
 
-abbrev pub fault_at : {A : Type 0} → FaultKind → ℕ → Result A Fault
-fault_at kind at = Err (record { kind = kind; at = at })
+abbrev pub payload_fault_at : {A : Type 0} → FaultKind → ℕ → Result A Fault
+payload_fault_at kind at = Err (record { kind = kind; at = at })
 
 -- the first n bits from a place on
 abbrev pub first_bits : ℕ → Bits → Bits
@@ -21,23 +21,23 @@ first_bits n b = record { at = b.at; bits = take n b.bits }
 
 -- a header that fills its bits: otherwise the fault stands at the first bit after it
 abbrev pub filled : Result (Header × Bits) Fault → Result (Option Header) Fault
-filled (Ok x) = if length x.1.bits == 0 then Ok (Some x.0) else fault_at faults.ExtraHeader x.1.at
+filled (Ok x) = if length x.1.bits == 0 then Ok (Some x.0) else payload_fault_at faults.ExtraHeader x.1.at
 filled (Err e) = Err e
 
 -- the extra header in PLEN bytes less PEBIT bits; the bytes are cut as one
 unfoldable pub extra_at : Format → ℕ → ℕ → Bits → Result (Option Header) Fault
 extra_at format plen pebit b =
     if plen == 0 then Ok None
-    else if nat_lt (length b.bits) (8 * plen) then fault_at faults.Ended b.at
+    else if nat_lt (length b.bits) (8 * plen) then payload_fault_at faults.Ended b.at
     else filled (reading (header format) (first_bits (8 * plen - pebit) b))
 
 -- by the data's first two bits, 10 begins a picture and 11 a later slice: each fault stands at the first of them
 abbrev pub begun_as : Option Header → ℕ → ℕ → Result Payload Fault
 begun_as extra at start =
-    if nat_lt start 2 then fault_at faults.NoStart at
+    if nat_lt start 2 then payload_fault_at faults.NoStart at
     else if start == 2 then (if is_none extra then Ok
-    (record { extra = extra; begins = true; from = at }) else fault_at faults.ExtraHeader at)
-    else if is_none extra then fault_at faults.NoExtraHeader at
+    (record { extra = extra; begins = true; from = at }) else payload_fault_at faults.ExtraHeader at)
+    else if is_none extra then payload_fault_at faults.NoExtraHeader at
     else Ok (record { extra = extra; begins = false; from = at })
 
 unfoldable pub begun_at : Option Header → Bits → Result Payload Fault

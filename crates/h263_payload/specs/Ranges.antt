@@ -7,7 +7,7 @@ use Rattle.h263_payload.specs.declared.payload.Opening.{Opening}
 use Rattle.h263_payload.specs.declared.payload.Payload.{Payload}
 
 -- six and three bits
-pub record IsOpening (o : Opening) : Type 0 where
+pub record IsPayloadOpening (o : Opening) : Type 0 where
   pub plen : o.plen < 64
   pub pebit : o.pebit < 8
 

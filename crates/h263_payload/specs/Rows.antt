@@ -24,7 +24,7 @@ pub record Leads (b : Bits) (o : Opening) (at : ℕ) (left : List Bool) : Type 0
   pub place : at ≡ b.at + length front
 
 -- and with the extra header after them, if there is one; this is the data
-pub record Reaches (format : Format) (b : Bits) (extra : Option Header) (at : ℕ) (coded : List Bool) : Type 0 where
+pub record ReachesData (format : Format) (b : Bits) (extra : Option Header) (at : ℕ) (coded : List Bool) : Type 0 where
   pub opening : Opening
   pub start : ℕ
   pub middle : List Bool
@@ -53,11 +53,11 @@ pub data IsPayloadFault (format : Format) (b : Bits) : FaultKind → ℕ → Typ
       → IsPayloadFault format b faults.ExtraHeader (start + length text)
   -- the data's first two bits
   cut_data : (extra : Option Header) (at : ℕ) (coded : List Bool)
-      → Reaches format b extra at coded → length coded < 2 → IsPayloadFault format b faults.Ended at
+      → ReachesData format b extra at coded → length coded < 2 → IsPayloadFault format b faults.Ended at
   no_start : (extra : Option Header) (at : ℕ) (second : Bool) (rest : List Bool)
-      → Reaches format b extra at (false ∷ second ∷ rest) → IsPayloadFault format b faults.NoStart at
+      → ReachesData format b extra at (false ∷ second ∷ rest) → IsPayloadFault format b faults.NoStart at
   -- 10 begins a picture, which has no extra header, and 11 a later slice, which has one
-  picture : (h : Header) (at : ℕ) (rest : List Bool) → Reaches format b (Some h) at (true ∷ false ∷ rest)
+  picture : (h : Header) (at : ℕ) (rest : List Bool) → ReachesData format b (Some h) at (true ∷ false ∷ rest)
       → IsPayloadFault format b faults.ExtraHeader at
-  slice : (at : ℕ) (rest : List Bool) → Reaches format b None at (true ∷ true ∷ rest)
+  slice : (at : ℕ) (rest : List Bool) → ReachesData format b None at (true ∷ true ∷ rest)
       → IsPayloadFault format b faults.NoExtraHeader at

@@ -17,8 +17,8 @@ may_follow true = any
 may_follow false = only 1 faults.FollowOn
 
 -- RR, P, V, PLEN and PEBIT
-unfoldable pub opening : Bool → Syntax Opening
-opening follow_on =
+unfoldable pub payload_opening : Bool → Syntax Opening
+payload_opening follow_on =
     field 5 any λ rr.
     field 1 (may_follow follow_on) λ p.
     field 1 any λ v.
@@ -29,7 +29,7 @@ opening follow_on =
 -- these of a packet that doesn't follow on another, and where V is set the byte of video redundancy coding (5.2)
 unfoldable pub leading : Syntax Opening
 leading =
-    part (opening false) any λ o.
+    part (payload_opening false) any λ o.
     either o.v (field 8 any λ redundancy. done o) (done o)
 
 -- the extra picture header takes PLEN bytes, of which the last PEBIT bits are left out
@@ -40,8 +40,8 @@ IsExtra format plen pebit (Some h) bits =
     × (0 < plen) × (length bits ≡ 8 * plen) × (length rest ≡ pebit) × IsHeaderText format h text
 
 -- the rest of a start code: 10 begins a picture, 11 a later slice (H.263, 5.1.1 and K.2)
-abbrev pub IsBegun : Bool → List Bool → Type 0
-IsBegun begins coded = (rest : List Bool) × (coded ≡ true ∷ not begins ∷ rest)
+abbrev pub IsStartCodeRest : Bool → List Bool → Type 0
+IsStartCodeRest begins coded = (rest : List Bool) × (coded ≡ true ∷ not begins ∷ rest)
 
 -- the bits from a place on are a payload: its header, and data after it
 pub record IsPayload (format : Format) (p : Payload) (b : Bits) : Type 0 where
@@ -52,7 +52,7 @@ pub record IsPayload (format : Format) (p : Payload) (b : Bits) : Type 0 where
   pub parts : b.bits ≡ front ++ (middle ++ coded)
   pub opened : Spells leading opening front
   pub extra : IsExtra format opening.plen opening.pebit p.extra middle
-  pub begun : IsBegun p.begins coded
+  pub begun : IsStartCodeRest p.begins coded
   -- a picture has no extra header, and a later slice has one
   pub begins : p.begins ≡ is_none p.extra
   pub from : p.from ≡ b.at + (length front + length middle)

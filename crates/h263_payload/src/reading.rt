@@ -3,9 +3,9 @@ ghost use Rattle.std.specs.Prelude.{◌≡◌, ℕ, ◌+◌, ◌*◌, ◌≤◌,
 ghost use Rattle.h263_bits.specs.Reading.{Gives, bits_between, first_fault};
 ghost use Rattle.h263_bits.specs.Syntax.{any, only, field_at, reading};
 ghost use Rattle.rtp_header.specs.Faults.{rtp_in};
-ghost use Rattle.h263_payload.specs.Text.{may_follow, opening, leading, IsPayload};
+ghost use Rattle.h263_payload.specs.Text.{may_follow, payload_opening, leading, IsPayload};
 ghost use Rattle.h263_payload.specs.Faults.{extra_at, begun_at, payload_at, payload_bits_of, payload_fault};
-ghost use Rattle.h263_payload.specs.Ranges.{IsOpening, IsExtraHeader, IsAfterHeader};
+ghost use Rattle.h263_payload.specs.Ranges.{IsPayloadOpening, IsExtraHeader, IsAfterHeader};
 ghost use Rattle.h263_payload.specs.declared.payload.Opening.{Opening};
 ghost use Rattle.h263_payload.specs.declared.payload.Payload.{Payload};
 
@@ -28,11 +28,11 @@ fn read_p(reader: &mut BitReader<'_>, follow_on: bool) -> Result<u32, Fault>
 }
 
 /// Reads RR, P, V, PLEN and PEBIT, in which a packet that follows on another is read or refused.
-#[tactic(auto, unfolding(crate::specs::Text::opening, h263_bits::specs::Syntax::reading))]
+#[tactic(auto, unfolding(crate::specs::Text::payload_opening, h263_bits::specs::Syntax::reading))]
 pub fn read_opening(reader: &mut BitReader<'_>, follow_on: bool) -> Result<Opening, Fault>
     ensures reads { Gives
-        (λ (o : Opening). o) result reader.new (reading (opening follow_on) reader.old) }
-    ensures range { IfOk result IsOpening }
+        (λ (o : Opening). o) result reader.new (reading (payload_opening follow_on) reader.old) }
+    ensures range { IfOk result IsPayloadOpening }
 {
     reader.bits(5)?;
     let p = read_p(reader, follow_on)?;
@@ -51,7 +51,7 @@ pub fn read_opening(reader: &mut BitReader<'_>, follow_on: bool) -> Result<Openi
 #[tactic(auto, unfolding(crate::specs::Text::leading, h263_bits::specs::Syntax::reading))]
 fn read_leading(reader: &mut BitReader<'_>) -> Result<Opening, Fault>
     ensures reads { Gives (λ (o : Opening). o) result reader.new (reading leading reader.old) }
-    ensures range { IfOk result IsOpening }
+    ensures range { IfOk result IsPayloadOpening }
 {
     let opening = read_opening(reader, false)?;
     if opening.v {
@@ -72,7 +72,7 @@ fn read_extra(
     requires short { length bytes.now ≤ 65535 }
     requires order { at ≤ end }
     requires within { end ≤ 8 * length bytes.now }
-    requires opening { IsOpening opening }
+    requires opening { IsPayloadOpening opening }
     ensures exact { result
         ≡ extra_at format opening.plen opening.pebit (bits_between bytes.now at end) }
     ensures room { IfOk result (λ _. at + 8 * opening.plen ≤ end) }

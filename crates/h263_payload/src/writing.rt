@@ -4,7 +4,7 @@ ghost use Rattle.std.specs.Option.{option_copied};
 ghost use Rattle.h263_bits.specs.Bits.{fields};
 ghost use Rattle.h263_bits.specs.Written.{Appends, len_of, room_of};
 ghost use Rattle.h263_payload.specs.Ranges.{IsExtraHeader};
-ghost use Rattle.h263_payload.specs.Written.{opening_fields, written_payload, payload_bits};
+ghost use Rattle.h263_payload.specs.Written.{payload_opening_fields, written_payload, payload_bits};
 
 use h263_bits::BitWriter;
 use picture_header::{Header, header_bits, write_header};
@@ -14,7 +14,7 @@ fn write_opening(writer: &mut BitWriter<'_>, plen: u32, pebit: u32)
     requires plen { plen < 64 }
     requires pebit { pebit < 8 }
     requires room { len_of writer.old + 16 ≤ room_of writer.old }
-    ensures bits { Appends writer.old writer.new (fields (opening_fields plen pebit)) }
+    ensures bits { Appends writer.old writer.new (fields (payload_opening_fields plen pebit)) }
     ensures len { len_of writer.new ≡ len_of writer.old + 16 }
 {
     writer.put(0, 5);

@@ -15,7 +15,7 @@ use Rattle.h263_planes.specs.Samples.{Inside, IsWhole, sample_at}
 use Rattle.h263_planes.specs.Given.{picture_with}
 use Rattle.h263_planes.proofs.Pictures.{run_inside, chroma_fits}
 use Rattle.h263_planes.proofs.Givens.{format_with, whole_with, sample_with, only_with}
-use Rattle.h263_planes.specs.Spots.{Spot, spot, spot_in, number_at, sample_of, owner_of, picture_by, AreSpots, ArePicturesBySamples}
+use Rattle.h263_planes.specs.Spots.{Spot, spot, spot_in, sample_number, sample_of, owner_of, picture_by, AreSpots, ArePicturesBySamples}
 
 at_y : (f : Format) (s : ℕ) → s < offset_of f Cb → spot f s ≡ spot_in f Y s
 unfolding spot
@@ -41,20 +41,21 @@ placed f plane s x y less is =
     let row : s / w ≡ y = ap (λ (k : ℕ). k / w) turned ∙ div-mul-add y w x (omega arith) in
     ap (λ (i : ℕ). at plane i (s / w)) column ∙ ap (λ (j : ℕ). at plane x j) row
 
-spot_is : (f : Format) (plane : Plane) (x y : ℕ) → Inside f plane x y 1 → spot f (number_at f plane x y) ≡ at plane x y
+spot_is : (f : Format) (plane : Plane) (x y : ℕ) → Inside f plane x y 1 → spot f (sample_number f plane x y)
+    ≡ at plane x y
 spot_is f Y x y i =
     let room : width_of f * y + x + 1 ≤ width_of f * height_of f = run_inside (width_of f) (height_of f) x y 1 i.in_row
     i.in_plane in
-    at_y f (number_at f Y x y) (omega arith) ∙ placed f Y (number_at f Y x y) x y i.in_row (omega arith)
+    at_y f (sample_number f Y x y) (omega arith) ∙ placed f Y (sample_number f Y x y) x y i.in_row (omega arith)
 spot_is f Cb x y i =
     let room : width_of f / 2 * y + x + 1 ≤ width_of f / 2 * (height_of f / 2) = run_inside (width_of f / 2)
     (height_of f / 2) x y 1 i.in_row i.in_plane in
     let e = chroma_fits f in
-    at_cb f (number_at f Cb x y) (omega arith) (omega arith)
-    ∙ placed f Cb (number_at f Cb x y - offset_of f Cb) x y i.in_row (omega arith)
+    at_cb f (sample_number f Cb x y) (omega arith) (omega arith)
+    ∙ placed f Cb (sample_number f Cb x y - offset_of f Cb) x y i.in_row (omega arith)
 spot_is f Cr x y i =
-    at_cr f (number_at f Cr x y) (omega arith) (omega arith)
-    ∙ placed f Cr (number_at f Cr x y - offset_of f Cr) x y i.in_row (omega arith)
+    at_cr f (sample_number f Cr x y) (omega arith) (omega arith)
+    ∙ placed f Cr (sample_number f Cr x y - offset_of f Cr) x y i.in_row (omega arith)
 
 -- each sample has its number
 some_y : (f : Format) → 0 < width_of f
@@ -71,7 +72,7 @@ whole : (w k : ℕ) → 0 < w → w * (k / w) + k % w ≡ k
 whole w k some = omega arith
 
 abbrev Here : Format → ℕ → Spot → Type 0
-Here f s p = (number_at f p.plane p.x p.y ≡ s) × (mb_of f p.plane p.x p.y < mbs_of f → Inside f p.plane p.x p.y 1)
+Here f s p = (sample_number f p.plane p.x p.y ≡ s) × (mb_of f p.plane p.x p.y < mbs_of f → Inside f p.plane p.x p.y 1)
 
 rows_left : (f : Format) (x y : ℕ) → mb_of f Cr x y < mbs_of f → y < height_in f Cr
 rows_left SubQcif x y lt = omega (arith, lt)
@@ -114,7 +115,7 @@ here_is f s =
       ]
     ]
 
-number_is : (f : Format) (s : ℕ) → number_at f (spot f s).plane (spot f s).x (spot f s).y ≡ s
+number_is : (f : Format) (s : ℕ) → sample_number f (spot f s).plane (spot f s).x (spot f s).y ≡ s
 number_is f s = (here_is f s).0
 
 inside_is : (f : Format) (s : ℕ) → owner_of f s < mbs_of f → Inside f (spot f s).plane (spot f s).x (spot f s).y 1
@@ -131,7 +132,7 @@ in_picture Cif Y x y i = omega (arith, i.in_row, i.in_plane)
 in_picture Cif Cb x y i = omega (arith, i.in_row, i.in_plane)
 in_picture Cif Cr x y i = omega (arith, i.in_row, i.in_plane)
 
-owner_is : (f : Format) (plane : Plane) (x y : ℕ) → Inside f plane x y 1 → owner_of f (number_at f plane x y)
+owner_is : (f : Format) (plane : Plane) (x y : ℕ) → Inside f plane x y 1 → owner_of f (sample_number f plane x y)
     ≡ mb_of f plane x y
 owner_is f plane x y i = ap (λ (p : Spot). mb_of f p.plane p.x p.y) (spot_is f plane x y i)
 
@@ -140,15 +141,16 @@ is_made : (f : Format) (p : Picture) (g : ℕ → ℕ) → p.format ≡ f → Is
     → sample_of p (spot f s) ≡ g s) → p ≡ picture_by f g
 is_made f p g format whole same =
     subst (λ (k : Format). ((plane : Plane) (x y : ℕ) → Inside k plane x y 1
-    → sample_at p plane x y ≡ g (number_at f plane x y))
-    → p ≡ picture_with k (λ plane x y. g (number_at f plane x y))) format
-    (only_with p (λ plane x y. g (number_at f plane x y)) whole)
+    → sample_at p plane x y ≡ g (sample_number f plane x y))
+    → p ≡ picture_with k (λ plane x y. g (sample_number f plane x y))) format
+    (only_with p (λ plane x y. g (sample_number f plane x y)) whole)
     (λ plane x y i. ap (λ (t : Spot). sample_of p t) (sym (spot_is f plane x y i))
-    ∙ same (number_at f plane x y) (subst (λ (k : ℕ). k < mbs_of f) (sym (owner_is f plane x y i))
+    ∙ same (sample_number f plane x y) (subst (λ (k : ℕ). k < mbs_of f) (sym (owner_is f plane x y i))
     (in_picture f plane x y i)))
 
 sample_made : (f : Format) (g : ℕ → ℕ) (s : ℕ) → owner_of f s < mbs_of f → sample_of (picture_by f g) (spot f s) ≡ g s
-sample_made f g s lt = sample_with f (λ plane x y. g (number_at f plane x y)) (spot f s).plane (spot f s).x (spot f s).y
+sample_made f g s lt = sample_with f (λ plane x y. g (sample_number f plane x y)) (spot f s).plane (spot f s).x
+    (spot f s).y
     (inside_is f s lt) ∙ ap g (number_is f s)
 
 same_made : (f : Format) (g h : ℕ → ℕ) → ((s : ℕ) → owner_of f s < mbs_of f → g s ≡ h s)

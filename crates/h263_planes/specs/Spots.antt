@@ -26,8 +26,8 @@ spot f s =
     else spot_in f Cr (s - offset_of f Cr)
 
 -- the number of the sample in column x of row y of a plane
-abbrev pub number_at : Format → Plane → ℕ → ℕ → ℕ
-number_at f plane x y = offset_of f plane + (width_in f plane * y + x)
+abbrev pub sample_number : Format → Plane → ℕ → ℕ → ℕ
+sample_number f plane x y = offset_of f plane + (width_in f plane * y + x)
 
 abbrev pub sample_of : Picture → Spot → ℕ
 sample_of p at = sample_at p at.plane at.x at.y
@@ -38,17 +38,17 @@ owner_of f s = mb_of f (spot f s).plane (spot f s).x (spot f s).y
 
 -- the picture whose samples are these by their numbers
 abbrev pub picture_by : Format → (ℕ → ℕ) → Picture
-picture_by f g = picture_with f (λ plane x y. g (number_at f plane x y))
+picture_by f g = picture_with f (λ plane x y. g (sample_number f plane x y))
 
 -- what ties numbers and places
 pub record AreSpots : Type 0 where
   pub spot_is : (f : Format) (plane : Plane) (x y : ℕ) → Inside f plane x y 1
-      → spot f (number_at f plane x y) ≡ (record { plane = plane; x = x; y = y })
-  pub number_is : (f : Format) (s : ℕ) → number_at f (spot f s).plane (spot f s).x (spot f s).y ≡ s
+      → spot f (sample_number f plane x y) ≡ (record { plane = plane; x = x; y = y })
+  pub number_is : (f : Format) (s : ℕ) → sample_number f (spot f s).plane (spot f s).x (spot f s).y ≡ s
   pub inside : (f : Format) (s : ℕ) → owner_of f s < mbs_of f → Inside f (spot f s).plane (spot f s).x (spot f s).y 1
   pub in_picture : (f : Format) (plane : Plane) (x y : ℕ) → Inside f plane x y 1 → mb_of f plane x y < mbs_of f
   pub owner_is : (f : Format) (plane : Plane) (x y : ℕ)
-      → Inside f plane x y 1 → owner_of f (number_at f plane x y) ≡ mb_of f plane x y
+      → Inside f plane x y 1 → owner_of f (sample_number f plane x y) ≡ mb_of f plane x y
 
 -- a picture is its samples by their numbers
 pub record ArePicturesBySamples : Type 0 where

@@ -5,3 +5,4 @@ pub mod Params
 pub mod References
 pub mod Marks
 pub mod Clocks
+pub mod Texts

@@ -56,7 +56,7 @@ ranges p =
     ∷ []
 
 -- the fault of the first test that fails
-abbrev pub verdict_of : List Range → Result Unit ParamFault
-verdict_of [] = Ok tt
-verdict_of ((true, fault) ∷ tests) = verdict_of tests
-verdict_of ((false, fault) ∷ tests) = Err fault
+abbrev pub range_verdict : List Range → Result Unit ParamFault
+range_verdict [] = Ok tt
+range_verdict ((true, fault) ∷ tests) = range_verdict tests
+range_verdict ((false, fault) ∷ tests) = Err fault

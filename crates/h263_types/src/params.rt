@@ -1,6 +1,6 @@
 //! The parameters of a call.
 ghost use Rattle.std.specs.Prelude.{◌≡◌, ◌↔◌, IsOk};
-ghost use Rattle.h263_types.specs.Params.{IsParams, default_params, verdict_of, ranges};
+ghost use Rattle.h263_types.specs.Params.{IsParams, default_params, range_verdict, ranges};
 
 use crate::clock::Clock;
 use crate::format::Format;
@@ -71,7 +71,7 @@ impl Params {
     /// Whether each parameter is in its range; if not, which is the first that isn't, in the order
     /// of the fields.
     pub fn check(&self) -> Result<(), ParamFault>
-        ensures fault { result ≡ verdict_of (ranges self.now) }
+        ensures fault { result ≡ range_verdict (ranges self.now) }
         ensures ok { IsOk result ↔ IsParams self.now }
     {
         if self.quant < 1 || self.quant > 31 {

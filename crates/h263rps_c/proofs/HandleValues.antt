@@ -28,7 +28,7 @@ use Rattle.std_alloc.specs.Box.Ownership.{box_owns}
 use Rattle.std.specs.contracts.alloc.Global as heap
 use Rattle.std.proofs.alloc.Global.TheLaws as heap_laws
 use Rattle.std.specs.contracts.impls.GlobalAllocator.TheImpl.{ghosts}
-use Rattle.h263rps_c.specs.Holds.{holds}
+use Rattle.h263rps_c.specs.Holds.{holds_end}
 use Rattle.h263rps_c.specs.contracts.ends.End as held
 use Rattle.h263rps_c.specs.contracts.handles.Handle as handle
 use Rattle.h263rps_c.proofs.LooseValues.{both}
@@ -50,7 +50,7 @@ handle_good null_ptr h fits = (and_tt (has_ty (layout Z) h) fits.0, ((Ptr-Good n
 module _ {M : Type 1} {𝓤 : Ura M} {𝓛 : Logic 𝓤} {K : Type 0} {Γ : List (Item 𝓤)} {G : Goal 𝓤 𝓛.H} where
   pub handle_out : K → (d : Hd.Denot) (vs : List Val)
       → ((h : Val) → vs ≡ both (ptr_val d.at) h ∷ [] → Good (layout Z) h
-      → Seq K 𝓛 (‵ (holds d.alloc d.at d.inside) ∷ ‵ (Z.own_val d.alloc (h ∷ [])) ∷ Γ) G)
+      → Seq K 𝓛 (‵ (holds_end d.alloc d.at d.inside) ∷ ‵ (Z.own_val d.alloc (h ∷ [])) ∷ Γ) G)
       → Seq K 𝓛 (‵ (Hd.own_val d vs) ∷ Γ) G
   handle_out t d vs k =
       fsplit t $ fpick t (λ vss. fsplit t $ feq_l t
@@ -61,7 +61,7 @@ module _ {M : Type 1} {𝓤 : Ura M} {𝓛 : Logic 𝓤} {K : Type 0} {Γ : List
 
   pub handle_in : K → (p : Ptr) (h : Val) (a : Z.Denot) (x : Option (held.the_row).Denot)
       → Step K 𝓛 (‵ (Hd.own_val (record { at = p; alloc = a; inside = x }) (both (ptr_val p) h ∷ [])) ∷ Γ) G
-      (‵ (holds a p x) ∷ ‵ (Z.own_val a (h ∷ [])) ∷ Γ) G
+      (‵ (holds_end a p x) ∷ ‵ (Z.own_val a (h ∷ [])) ∷ Γ) G
   handle_in t p h a x = step (λ s. let v : Val = both (ptr_val p) h in
       nothing t $ move t (2 ∷ 0 ∷ []) $ fjoin t $ feq_i t (List Val) (ptr_val p ∷ []) (ptr_val p ∷ [])
       refl $ fjoin t $ feq_i t (List Val) (v ∷ []) (v ∷ []) refl $ fjoin t $
@@ -74,7 +74,7 @@ module _ {M : Type 1} {𝓤 : Ura M} {𝓛 : Logic 𝓤} {K : Type 0} {Γ : List
   pub in_it : K → (a : Z.Denot) (p : Ptr) (x : Option (held.the_row).Denot) → IsSome x
       → ((b o : ℕ) (v : (held.the_row).Denot) → p ≡ block_ptr b o → x ≡ Some v
       → Seq K 𝓛 (‵ (box_owns (ghosts.dealloc_token a) held.the_row (block_ptr b o) v) ∷ Γ) G)
-      → Seq K 𝓛 (‵ (holds a p x) ∷ Γ) G
+      → Seq K 𝓛 (‵ (holds_end a p x) ∷ Γ) G
   in_it t a p None some k = absurd (false≢true some)
   in_it t a p (Some v) some k =
       in_a_block t p (λ p'. box_owns (ghosts.dealloc_token a) held.the_row p' v)

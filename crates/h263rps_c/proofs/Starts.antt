@@ -9,7 +9,7 @@ use Rattle.back_messages.specs.Text.{IsMessage}
 use Rattle.back_messages.specs.Laws.{MessageLaws}
 use Rattle.picture_header.specs.declared.header.Header.{Header}
 use Rattle.picture_header.specs.Ranges.{AreMessages, messages_in}
-use Rattle.packet_collector.specs.Packet.{Slice, packet_at}
+use Rattle.packet_collector.specs.Packet.{PacketSlice, packet_at}
 use Rattle.packet_start.specs.Start.{start_at, start_in}
 
 -- the message at a place is one of the wider clock as well
@@ -23,11 +23,12 @@ at_place laws clock (None ∷ places) are (suc i) = at_place laws clock places a
 at_place laws clock (Some m ∷ places) are (suc i) = at_place laws clock places are.1 i
 
 -- a packet that is read whole has the start of its slice
-pub whole : ((format : Format) (bytes : List ℕ) (s : Slice) → packet_at format bytes ≡ Ok s
+pub whole : ((format : Format) (bytes : List ℕ) (s : PacketSlice) → packet_at format bytes ≡ Ok s
     → start_at format bytes ≡ Ok s.header)
     → ((format : Format) (bytes : List ℕ) (h : Header) → start_at format bytes ≡ Ok h → h.format ≡ format)
     → ((bytes : List ℕ) (h : Header) → (start_in bytes ≡ Some h) ↔ (start_at h.format bytes ≡ Ok h))
-    → (format : Format) (bytes : List ℕ) (s : Slice) → packet_at format bytes ≡ Ok s → start_in bytes ≡ Some s.header
+    → (format : Format) (bytes : List ℕ) (s : PacketSlice) → packet_at format bytes ≡ Ok s
+    → start_in bytes ≡ Some s.header
 whole read formats found format bytes s e =
     let start = read format bytes s e in
     (found bytes s.header).1 (subst (λ (f : Format). start_at f bytes ≡ Ok s.header)

@@ -7,18 +7,18 @@ use Rattle.h263_types.specs.declared.format.Format.TheVariants.{SubQcif, Qcif, C
 use Rattle.h263_types.specs.declared.params.Params.{Params}
 use Rattle.h263_types.specs.declared.params.ParamFault.{ParamFault}
 use Rattle.h263_types.specs.declared.params.ParamFault.TheVariants.{Quant, Keep, Radius, Limit, Slots, Lead, Messages}
-use Rattle.h263_types.specs.Params.{ranges, verdict_of}
+use Rattle.h263_types.specs.Params.{ranges, range_verdict}
 use Rattle.h263rps_c.specs.declared.asked.Asked.{Asked}
 
-abbrev pub format_in : ℕ → Option Format
-format_in n =
+abbrev pub format_numbered : ℕ → Option Format
+format_numbered n =
     if n == 1 then Some SubQcif
     else if n == 2 then Some Qcif
     else if n == 3 then Some Cif
     else None
 
-abbrev pub clock_in : ℕ → Option Clock
-clock_in n =
+abbrev pub clock_numbered : ℕ → Option Clock
+clock_numbered n =
     if n == 0 then Some Standard
     else if n == 1 then Some Custom
     else None
@@ -77,18 +77,18 @@ when_right target pace p (Ok right) =
 
 abbrev pub checked_params : Asked → Format → Clock → Result Params ℕ
 checked_params a format clock =
-    let p = params_with a format clock in when_right a.target a.pace p (verdict_of (ranges p))
+    let p = params_with a format clock in when_right a.target a.pace p (range_verdict (ranges p))
 
-abbrev pub params_in : Asked → Option Format → Option Clock → Result Params ℕ
-params_in a None clock = Err bad_format
-params_in a (Some format) None = Err bad_clock
-params_in a (Some format) (Some clock) = checked_params a format clock
+abbrev pub params_asked_in : Asked → Option Format → Option Clock → Result Params ℕ
+params_asked_in a None clock = Err bad_format
+params_asked_in a (Some format) None = Err bad_clock
+params_asked_in a (Some format) (Some clock) = checked_params a format clock
 
 -- the parameters, or the number of the first that is out of its range: the struct's size, the
 -- format, the clock, those of a call in their order, the target, the pace
-abbrev pub params_of : Asked → Result Params ℕ
-params_of a =
-    if a.size == params_size then params_in a (format_in a.format) (clock_in a.clock)
+abbrev pub params_asked : Asked → Result Params ℕ
+params_asked a =
+    if a.size == params_size then params_asked_in a (format_numbered a.format) (clock_numbered a.clock)
     else Err bad_size
 
 abbrev pub bad_number : ℕ

@@ -16,8 +16,8 @@ tally places place =
     else places
 
 -- nothing yet
-abbrev pub none : Statistics
-none =
+abbrev pub no_statistics : Statistics
+no_statistics =
     record {
       packets = 0;
       bytes = 0;
@@ -44,12 +44,12 @@ abbrev pub reference_group : Made → ℕ
 reference_group made = if made.intra == 1 then 0 else distance_group (made.number - made.reference)
 
 -- with a packet of so many bytes
-abbrev pub with_packet : ℕ → Statistics → Statistics
-with_packet length s = record s { packets = plus s.packets 1; bytes = plus s.bytes length }
+abbrev pub statistics_with_packet : ℕ → Statistics → Statistics
+statistics_with_packet length s = record s { packets = plus s.packets 1; bytes = plus s.bytes length }
 
 -- with the answer to it
-abbrev pub with_heard : ℕ → Answer → Statistics → Statistics
-with_heard length answer s =
+abbrev pub statistics_with_heard : ℕ → Answer → Statistics → Statistics
+statistics_with_heard length answer s =
     record s {
       packets = plus s.packets 1;
       bytes = plus s.bytes length;
@@ -58,13 +58,13 @@ with_heard length answer s =
     }
 
 -- with a play
-abbrev pub with_played : Answer → Statistics → Statistics
-with_played answer s = record s { played = tally s.played answer.kind }
+abbrev pub statistics_with_played : Answer → Statistics → Statistics
+statistics_with_played answer s = record s { played = tally s.played answer.kind }
 
 -- with a picture that was coded
 abbrev pub with_made : Made → Statistics → Statistics
 with_made made s = record s { coded = tally s.coded (reference_group made) }
 
 -- with a message
-abbrev pub with_reply : Reply → Statistics → Statistics
-with_reply reply s = record s { noted = tally s.noted reply.kind }
+abbrev pub statistics_with_reply : Reply → Statistics → Statistics
+statistics_with_reply reply s = record s { noted = tally s.noted reply.kind }

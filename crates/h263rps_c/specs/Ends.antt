@@ -27,7 +27,7 @@ use Rattle.h263rps_c.specs.declared.answers.Answer.{Answer}
 use Rattle.h263rps_c.specs.declared.answers.Made.{Made}
 use Rattle.h263rps_c.specs.declared.ends.End.{End}
 use Rattle.h263rps_c.specs.declared.ends.End.TheVariants.{Line, Receiving, Repeats, Sending}
-use Rattle.h263rps_c.specs.Numbers.{arrived_answer, made_of, played_answer, reply_of}
+use Rattle.h263rps_c.specs.Numbers.{arrived_answer, made_of, played_answer, reply_numbers}
 
 -- ---- a receiver
 
@@ -79,15 +79,15 @@ pub record TellsCoded (number : ℕ) (x : CodedPicture Style Mb Picture) (made :
   pub is_told : made ≡ made_of told
 
 -- the packets of the picture that was coded last
-abbrev pub packets_in : Option End → List (List ℕ)
-packets_in None = []
-packets_in (Some (Sending s)) = s.sender.packets
-packets_in (Some (Receiving r)) = []
-packets_in (Some (Repeats r)) = []
-packets_in (Some (Line f)) = []
+abbrev pub end_packets : Option End → List (List ℕ)
+end_packets None = []
+end_packets (Some (Sending s)) = s.sender.packets
+end_packets (Some (Receiving r)) = []
+end_packets (Some (Repeats r)) = []
+end_packets (Some (Line f)) = []
 
 -- the answer to a message is this one, in numbers
 pub record TellsReply (answer : Reply) (reply : call.Reply MessageFault) : Type 0 where
   pub told : Feedback
   pub is_reply : senders.reply_of told ≡ reply
-  pub is_told : answer ≡ reply_of told
+  pub is_told : answer ≡ reply_numbers told

@@ -9,7 +9,7 @@ use Rattle.call_encoding.specs.Encoding.{encoding}
 use Rattle.call_encoding.specs.Frames.{Frame}
 use Rattle.sender_end.specs.State.{SenderState}
 use Rattle.rate_control.specs.declared.send_pace.SendPace.{SendPace}
-use Rattle.rate_control.specs.Pace.{first_of, quant_after_sizes, target_of}
+use Rattle.rate_control.specs.Pace.{first_quant, quant_after_sizes, target_of}
 use Rattle.group_sender.specs.Holding.{Groups, HoldsGroup}
 use Rattle.group_sender.specs.declared.member.Member.{Member}
 use Rattle.group_sender.specs.Running.{GroupEntry, CaptureAll, FeedbackOf, JoinsAt, LeavesAt, group_run}
@@ -18,7 +18,7 @@ use Rattle.h263rps_c.specs.declared.answers.Reply.{Reply as CReply}
 use Rattle.h263rps_c.specs.Ends.{TellsReply}
 use Rattle.h263rps_c.specs.declared.refusals.EndRefusal.{EndRefusal}
 use Rattle.h263rps_c.specs.declared.refusals.EndRefusal.TheVariants.{NotStarted, Started, BadParams, NoReceiver}
-use Rattle.h263rps_c.specs.Pace.{target_in}
+use Rattle.h263rps_c.specs.Pace.{target_if_any}
 
 -- what is done to it: a frame is coded, the bytes of a message of the receiver at a place come back,
 -- one joins or leaves, it follows another target or none, or it is told its quantiser
@@ -72,9 +72,9 @@ group_after p first past =
 -- a group with these parameters and this first target, after all this, the newest first
 pub record Manages (p : Params) (first : ℕ) (past : List Managing) (k : KeptGroup) : Type 0 where
   pub params : k.group.params ≡ p
-  pub follows : target_of k.group.sender.pace ≡ group_target (target_in first) past
-  pub quant : first_of k.group.sender.pace ≡ group_quant p.quant past
-  pub holds : HoldsGroup k.group (group_after p (target_in first) past)
+  pub follows : target_of k.group.sender.pace ≡ group_target (target_if_any first) past
+  pub quant : first_quant k.group.sender.pace ≡ group_quant p.quant past
+  pub holds : HoldsGroup k.group (group_after p (target_if_any first) past)
 
 -- inside is such a group
 abbrev pub HoldsKept : Params → ℕ → List Managing → Option KeptGroup → Type 0

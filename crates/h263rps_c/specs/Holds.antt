@@ -8,6 +8,6 @@ use Rattle.std_alloc.specs.Box.Ownership.{box_owns}
 use Rattle.std.specs.contracts.impls.GlobalAllocator.TheImpl.{ghosts}
 use Rattle.h263rps_c.specs.contracts.ends.End.{the_row}
 
-abbrev pub holds : Global → Ptr → Option (the_row.Denot) → Fml
-holds a p None = ftrue
-holds a p (Some v) = box_owns (ghosts.dealloc_token a) the_row p v
+abbrev pub holds_end : Global → Ptr → Option (the_row.Denot) → Fml
+holds_end a p None = ftrue
+holds_end a p (Some v) = box_owns (ghosts.dealloc_token a) the_row p v

@@ -7,9 +7,9 @@ use Rattle.h263rps_c.specs.contracts.ends.End.{the_row as end_row}
 use Rattle.h263rps_c.specs.contracts.handles.Handle.{the_row}
 
 -- the handle with this end in it
-abbrev pub with_end : Handle → End → Handle
-with_end h end = record { at = h.at; alloc = h.alloc; inside = Some end }
+abbrev pub handle_with_end : Handle → End → Handle
+handle_with_end h end = record { at = h.at; alloc = h.alloc; inside = Some end }
 
 -- r lends the end
 abbrev pub LendsEnd : MutBor Handle → MutBor End → Fml
-LendsEnd h r = Lends the_row end_row h r (with_end h.now)
+LendsEnd h r = Lends the_row end_row h r (handle_with_end h.now)

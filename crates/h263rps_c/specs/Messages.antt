@@ -18,24 +18,24 @@ place_read (Ok m) = Says m
 
 -- what is in a place: nothing where its length is 0, or a message of three bytes or five; no other
 -- length is one
-abbrev pub place_in : Clock → CMessage → Place
-place_in clock said =
+abbrev pub said_place : Clock → CMessage → Place
+said_place clock said =
     if said.length == 0 then Empty
     else if (said.length == 3) || (said.length == 5) then place_read (message_in clock (text_in said))
     else Wrong
 
 -- a message in it is one of a clock
-abbrev pub IsPlace : Clock → Place → Type 0
-IsPlace clock (Says m) = IsMessage clock m
-IsPlace clock _ = Unit {0}
+abbrev pub IsMessagePlace : Clock → Place → Type 0
+IsMessagePlace clock (Says m) = IsMessage clock m
+IsMessagePlace clock _ = Unit {0}
 
-abbrev pub with_place : Place → Option (List Message) → Option (List Message)
-with_place Empty others = others
-with_place Wrong others = None
-with_place (Says m) None = None
-with_place (Says m) (Some messages) = Some (m ∷ messages)
+abbrev pub messages_with_place : Place → Option (List Message) → Option (List Message)
+messages_with_place Empty others = others
+messages_with_place Wrong others = None
+messages_with_place (Says m) None = None
+messages_with_place (Says m) (Some messages) = Some (m ∷ messages)
 
 -- the messages by a clock, if each place that isn't empty has one
 abbrev pub messages_of : Clock → List CMessage → Option (List Message)
 messages_of clock [] = Some []
-messages_of clock (said ∷ others) = with_place (place_in clock said) (messages_of clock others)
+messages_of clock (said ∷ others) = messages_with_place (said_place clock said) (messages_of clock others)

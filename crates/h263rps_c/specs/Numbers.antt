@@ -78,21 +78,21 @@ fault_number faults.Overlap = 4
 fault_number (faults.Bytes fault) = kind_number fault.kind
 
 -- the bit at which the bytes have their fault; other faults have no place, and 0
-abbrev pub place_of : PacketFault → ℕ
-place_of (faults.Bytes fault) = fault.at
-place_of _ = 0
+abbrev pub fault_place : PacketFault → ℕ
+fault_place (faults.Bytes fault) = fault.at
+fault_place _ = 0
 
 -- ---- a receiver's answers
 
 abbrev pub no_message : CMessage
 no_message = record { bytes = 0 ∷ 0 ∷ 0 ∷ 0 ∷ 0 ∷ []; length = 0 }
 
-abbrev pub said_of : Said → CMessage
-said_of said = record { bytes = said.bytes; length = said.len }
+abbrev pub c_message_of : Said → CMessage
+c_message_of said = record { bytes = said.bytes; length = said.len }
 
-abbrev pub said_in : Option Said → CMessage
-said_in None = no_message
-said_in (Some said) = said_of said
+abbrev pub message_or_none : Option Said → CMessage
+message_or_none None = no_message
+message_or_none (Some said) = c_message_of said
 
 abbrev pub plain : ℕ → Answer
 plain kind =
@@ -115,7 +115,7 @@ saying kind said =
       number = 0;
       predicted = 0;
       reference = 0;
-      message = said_of said;
+      message = c_message_of said;
     }
 
 abbrev pub refusing : PacketFault → Answer
@@ -123,7 +123,7 @@ refusing fault =
     record {
       kind = 5;
       fault = fault_number fault;
-      at = place_of fault;
+      at = fault_place fault;
       number = 0;
       predicted = 0;
       reference = 0;
@@ -173,7 +173,7 @@ played_answer played =
       number = played.number;
       predicted = is_predicted played.reference;
       reference = number_or_zero played.reference;
-      message = said_in played.message;
+      message = message_or_none played.message;
     }
 
 -- ---- a sender's answers
@@ -196,7 +196,7 @@ message_fault_number messages.Marker = 4
 message_fault_number messages.Pair = 5
 
 -- to a message
-abbrev pub reply_of : Feedback → Reply
-reply_of feedbacks.Noted = record { kind = 0; fault = 0 }
-reply_of feedbacks.Old = record { kind = 1; fault = 0 }
-reply_of (feedbacks.Refused fault) = record { kind = 2; fault = message_fault_number fault }
+abbrev pub reply_numbers : Feedback → Reply
+reply_numbers feedbacks.Noted = record { kind = 0; fault = 0 }
+reply_numbers feedbacks.Old = record { kind = 1; fault = 0 }
+reply_numbers (feedbacks.Refused fault) = record { kind = 2; fault = message_fault_number fault }

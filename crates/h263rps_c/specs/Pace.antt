@@ -4,9 +4,9 @@ use Rattle.h263_types.specs.declared.params.Params.{Params}
 use Rattle.rate_control.specs.Pace as paces
 
 -- the target in bytes per picture, where 0 is none
-abbrev pub target_in : ℕ → Option ℕ
-target_in target = if target == 0 then None else Some target
+abbrev pub target_if_any : ℕ → Option ℕ
+target_if_any target = if target == 0 then None else Some target
 
 -- the pace with this target, and the parameters' quantiser as the first
-abbrev pub pace_of : ℕ → Params → List ℕ → ℕ
-pace_of target = paces.pace_of (target_in target)
+abbrev pub target_pace : ℕ → Params → List ℕ → ℕ
+target_pace target = paces.pace_of (target_if_any target)

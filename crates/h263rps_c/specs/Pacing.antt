@@ -3,7 +3,7 @@ use Rattle.std.specs.Prelude.{ℕ, ◌==◌, nat_lt, Option, Some, None, if◌th
 use Rattle.h263_types.specs.declared.format.Format.{Format}
 use Rattle.h263_types.specs.declared.Kind.{Kind}
 use Rattle.h263_types.specs.declared.Kind.TheVariants as kinds
-use Rattle.h263rps_c.specs.Asked.{format_in}
+use Rattle.h263rps_c.specs.Asked.{format_numbered}
 use Rattle.h263rps_c.specs.declared.refusals.EndRefusal.{EndRefusal}
 use Rattle.h263rps_c.specs.declared.refusals.EndRefusal.TheVariants.{BadParams}
 
@@ -18,4 +18,4 @@ target_refused (Some f) target =
 
 -- the number of a format, and a target of 1 to 999,999 bytes a picture
 abbrev pub pacing_refusal : ℕ → ℕ → Option EndRefusal
-pacing_refusal format target = target_refused (format_in format) target
+pacing_refusal format target = target_refused (format_numbered format) target

@@ -30,9 +30,9 @@ abbrev pub status_of : Option EndRefusal → ℕ
 status_of None = 0
 status_of (Some refusal) = refusal_number refusal
 
-abbrev pub refusal_in : {T : Type 0} → Result T EndRefusal → Option EndRefusal
-refusal_in (Ok value) = None
-refusal_in (Err refusal) = Some refusal
+abbrev pub end_refusal : {T : Type 0} → Result T EndRefusal → Option EndRefusal
+end_refusal (Ok value) = None
+end_refusal (Err refusal) = Some refusal
 
 -- ---- where an end refuses
 

@@ -9,11 +9,11 @@ use Rattle.rate_control.specs.declared.send_pace.SendPace.{SendPace}
 use Rattle.fitted_sender.specs.declared.aim.Aim.{Aim}
 
 -- the sender, its aim, and whether a target is fitted
-pub record Sends : Type 0 where
+pub record AimedSender : Type 0 where
   pub sender : SenderState SendPace
   pub aim : Aim
   pub fits : Bool
 
 -- the frame of these bytes, with these messages in its header
-abbrev pub frame_of : Params → List ℕ → List Message → Frame
-frame_of p bytes messages = record { picture = picture_of p.format bytes; messages = messages }
+abbrev pub frame_given : Params → List ℕ → List Message → Frame
+frame_given p bytes messages = record { picture = picture_of p.format bytes; messages = messages }

@@ -53,14 +53,14 @@ verdict_number (run_variants.Ahead number) = 2
 verdict_number (run_variants.Heard heard) = 3
 
 -- the number of a picture that is ahead
-abbrev pub ahead_of : run_answers.Arrived → ℕ
-ahead_of (run_variants.Ahead number) = number
-ahead_of _ = 0
+abbrev pub number_ahead : run_answers.Arrived → ℕ
+number_ahead (run_variants.Ahead number) = number
+number_ahead _ = 0
 
 -- the receiver's answer, if there is one
-abbrev pub heard_in : run_answers.Arrived → Answer
-heard_in (run_variants.Heard heard) = heard_answer heard
-heard_in _ = plain 0
+abbrev pub answer_arrived : run_answers.Arrived → Answer
+answer_arrived (run_variants.Heard heard) = heard_answer heard
+answer_arrived _ = plain 0
 
 abbrev pub dropped_numbers : Cause → ℕ → CArrived
 dropped_numbers cause rival =
@@ -81,9 +81,9 @@ taken_numbers t rival =
       cause = 0;
       run = run_number t.run;
       source = t.source;
-      ahead = ahead_of t.answer;
+      ahead = number_ahead t.answer;
       rival = rival;
-      answer = heard_in t.answer;
+      answer = answer_arrived t.answer;
     }
 
 abbrev pub verdict_numbers : Verdict → ℕ → CArrived

@@ -11,7 +11,7 @@ use Rattle.h263rps_c.specs.declared.answers.CMessage.{CMessage}
 use Rattle.h263rps_c.specs.declared.start.Start.{Start}
 use Rattle.h263rps_c.specs.declared.refusals.EndRefusal.{EndRefusal}
 use Rattle.h263rps_c.specs.declared.refusals.EndRefusal.TheVariants.{NoStart}
-use Rattle.h263rps_c.specs.Asked.{clock_in, format_in}
+use Rattle.h263rps_c.specs.Asked.{clock_numbered, format_numbered}
 use Rattle.h263rps_c.specs.Messages.{text_in}
 use Rattle.h263rps_c.specs.Numbers.{no_message}
 
@@ -36,7 +36,7 @@ Refers intra reference None = (intra ≡ 1) × (reference ≡ 0)
 Refers intra reference (Some trp) = (intra ≡ 0) × (reference ≡ trp)
 
 -- the text of a message, and zeros in the bytes after it
-pub record IsSaid (said : CMessage) (m : Message) : Type 0 where
+pub record IsTextOfMessage (said : CMessage) (m : Message) : Type 0 where
   pub text : bits_of (text_in said) ≡ message_text m
   pub length : 8 * said.length ≡ message_bits m
   pub filled : said.length ≡ 3 → drop 3 said.bytes ≡ 0 ∷ 0 ∷ []
@@ -44,7 +44,7 @@ pub record IsSaid (said : CMessage) (m : Message) : Type 0 where
 -- the message at a place of a header, or nothing
 abbrev pub IsSaidOf : CMessage → Option Message → Type 0
 IsSaidOf said None = said ≡ no_message
-IsSaidOf said (Some m) = IsSaid said m
+IsSaidOf said (Some m) = IsTextOfMessage said m
 
 abbrev pub AreSaid : List CMessage → List (Option Message) → Type 0
 AreSaid [] [] = Unit {0}
@@ -54,8 +54,8 @@ AreSaid (said ∷ others) [] = ⊥
 
 -- what C is told of a picture's header
 pub record IsStart (start : Start) (h : Header) : Type 0 where
-  pub format : format_in start.format ≡ Some h.format
-  pub clock : clock_in start.clock ≡ Some h.clock
+  pub format : format_numbered start.format ≡ Some h.format
+  pub clock : clock_numbered start.clock ≡ Some h.clock
   pub temporal_reference : start.temporal_reference ≡ h.tr
   pub refers : Refers start.intra start.reference h.trp
   pub count : start.count ≡ length (messages_in h.back)

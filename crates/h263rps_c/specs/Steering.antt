@@ -11,14 +11,14 @@ use Rattle.call_decoding.specs.Rules.{rules_of}
 use Rattle.call_decoding.specs.Styles.{Style}
 use Rattle.call_encoding.specs.Encoding.{encoding}
 use Rattle.call_encoding.specs.Frames.{Frame}
-use Rattle.sender_end.specs.Stands.{Holds, Run, run_of}
+use Rattle.sender_end.specs.Stands.{Holds, SentRun, entries_run}
 use Rattle.rate_control.specs.Pace.{quant_after_sizes}
 use Rattle.picture_pace.specs.declared.fit.FitPace.{FitPace}
 use Rattle.picture_pace.specs.Fitting.{fitting_quant}
 use Rattle.fitted_sender.specs.declared.aim.Aim.{Aim}
-use Rattle.fitted_sender.specs.Aiming.{Sent, after_heard, after_sent, first_aim, fixed, next_kind, next_sent, refitted}
-use Rattle.h263rps_c.specs.Sending.{Sends}
-use Rattle.h263rps_c.specs.Pace.{pace_of, target_in}
+use Rattle.fitted_sender.specs.Aiming.{Sent, sent_after_heard, after_sent, first_aim, fixed, next_kind, next_sent, refitted}
+use Rattle.h263rps_c.specs.Sending.{AimedSender}
+use Rattle.h263rps_c.specs.Pace.{target_pace, target_if_any}
 
 -- what is done to it: a frame is coded, the bytes of a message come back, it follows another target
 -- or none, it is told its quantiser, or it forgets the pictures before
@@ -40,30 +40,30 @@ aimed_anew p true target a = refitted p target a
 aimed_anew p false target a = first_aim p target None
 
 -- what it has done, and what its next quantiser follows, the newest first
-abbrev pub sent_after : Params → Bool → Option ℕ → List Steering → Sent
-sent_after p fits first [] = record { run = nothing_done; aim = first_in p fits first }
-sent_after p fits first (Capture frame ∷ past) = after_sent p frame (sent_after p fits first past)
-sent_after p fits first (Feedback bytes ∷ past) = after_heard p bytes (sent_after p fits first past)
-sent_after p fits first (Target target ∷ past) =
-    let s = sent_after p fits first past in record { run = s.run; aim = aimed_anew p fits target s.aim }
-sent_after p fits first (Quant quant ∷ past) =
-    record { run = (sent_after p fits first past).run; aim = fixed quant }
-sent_after p fits first (Forget ∷ past) =
-    let s = sent_after p fits first past in record { run = after_forget s.run; aim = s.aim }
+abbrev pub steered_sent : Params → Bool → Option ℕ → List Steering → Sent
+steered_sent p fits first [] = record { run = nothing_done; aim = first_in p fits first }
+steered_sent p fits first (Capture frame ∷ past) = after_sent p frame (steered_sent p fits first past)
+steered_sent p fits first (Feedback bytes ∷ past) = sent_after_heard p bytes (steered_sent p fits first past)
+steered_sent p fits first (Target target ∷ past) =
+    let s = steered_sent p fits first past in record { run = s.run; aim = aimed_anew p fits target s.aim }
+steered_sent p fits first (Quant quant ∷ past) =
+    record { run = (steered_sent p fits first past).run; aim = fixed quant }
+steered_sent p fits first (Forget ∷ past) =
+    let s = steered_sent p fits first past in record { run = after_forget s.run; aim = s.aim }
 
-abbrev pub run_after : Params → Bool → Option ℕ → List Steering → Run
-run_after p fits first past = (sent_after p fits first past).run
+abbrev pub steered_run : Params → Bool → Option ℕ → List Steering → SentRun
+steered_run p fits first past = (steered_sent p fits first past).run
 
 -- its next picture, of this frame
-abbrev pub next_after : Params → Bool → Option ℕ → Frame → List Steering → Coded Style Mb Picture
-next_after p fits first frame past = next_sent p frame (sent_after p fits first past)
+abbrev pub steered_next : Params → Bool → Option ℕ → Frame → List Steering → Coded Style Mb Picture
+steered_next p fits first frame past = next_sent p frame (steered_sent p fits first past)
 
 -- a sender with these parameters and this first target, after all this, the newest first
-pub record Steers (p : Params) (fits : Bool) (first : ℕ) (past : List Steering) (s : Sends) : Type 0 where
+pub record Steers (p : Params) (fits : Bool) (first : ℕ) (past : List Steering) (s : AimedSender) : Type 0 where
   pub params : s.sender.params ≡ p
   pub fits_as : s.fits ≡ fits
-  pub follows : s.aim ≡ (sent_after p fits (target_in first) past).aim
-  pub holds : Holds s.sender (run_after p fits (target_in first) past)
+  pub follows : s.aim ≡ (steered_sent p fits (target_if_any first) past).aim
+  pub holds : Holds s.sender (steered_run p fits (target_if_any first) past)
 
 -- ---- what its pictures are
 
@@ -89,27 +89,27 @@ first_after quant (Forget ∷ past) = first_after quant past
 -- pictures. Without one it is the parameters', or the one that it was told last.
 abbrev pub QuantiserIs : Type 0
 QuantiserIs = (p : Params) (first : Option ℕ) (frame : Frame) (past : List Steering) →
-    (next_after p false first frame past).style.quant
+    (steered_next p false first frame past).style.quant
     ≡ quant_after_sizes (target_after first past) (first_after p.quant past)
-    (last_sizes (encoding p) (rules_of p) (run_after p false first past).run.coded)
+    (last_sizes (encoding p) (rules_of p) (steered_run p false first past).run.coded)
 
 -- Where one is fitted it is that of the pace for a picture of its kind.
 abbrev pub QuantiserFits : Type 0
 QuantiserFits = (p : Params) (first : Option ℕ) (frame : Frame) (past : List Steering) (pace : FitPace) →
-    (sent_after p true first past).aim.fit ≡ Some pace
-    → (next_after p true first frame past).style.quant
-    ≡ fitting_quant (next_kind p (run_after p true first past)) pace
+    (steered_sent p true first past).aim.fit ≡ Some pace
+    → (steered_next p true first frame past).style.quant
+    ≡ fitting_quant (next_kind p (steered_run p true first past)) pace
 
 -- the picture after a forget is coded intra
-abbrev pub ForgetIsIntra : Type 0
-ForgetIsIntra = (p : Params) (fits : Bool) (first : Option ℕ) (frame : Frame) (past : List Steering) →
-    (next_after p fits first frame (Forget ∷ past)).reference ≡ None
+abbrev pub SteeredForgetIsIntra : Type 0
+SteeredForgetIsIntra = (p : Params) (fits : Bool) (first : Option ℕ) (frame : Frame) (past : List Steering) →
+    (steered_next p fits first frame (Forget ∷ past)).reference ≡ None
 
 -- no picture that was coded before it is a reference any more, whatever comes after
 abbrev pub ForgetIsForGood : Type 0
 ForgetIsForGood = (p : Params) (fits : Bool) (first : Option ℕ) (frame : Frame) (later past : List Steering) (m : ℕ) →
-    (next_after p fits first frame (later ++ Forget ∷ past)).reference ≡ Some m
-    → length (run_after p fits first past).run.coded ≤ m
+    (steered_next p fits first frame (later ++ Forget ∷ past)).reference ≡ Some m
+    → length (steered_run p fits first past).run.coded ≤ m
 
 -- ---- where it isn't steered
 
@@ -121,5 +121,5 @@ plain (call.Feedback bytes) = Feedback bytes
 abbrev pub PlainIsRun : Type 0
 PlainIsRun = (p : Params) (fits : Bool) (first : ℕ) (entries : List (SenderEntry Frame)) →
     (fits ≡ true → first ≡ 0)
-    → run_after p fits (target_in first) (map plain entries)
-    ≡ record { run = run_of p (pace_of first p) entries; since = 0 }
+    → steered_run p fits (target_if_any first) (map plain entries)
+    ≡ record { run = entries_run p (target_pace first p) entries; since = 0 }

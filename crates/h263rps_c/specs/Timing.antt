@@ -14,12 +14,12 @@ setting_number (faults.Params fault) = param_number fault
 setting_number faults.Rate = 13
 setting_number faults.Lead = 14
 
-abbrev pub numbered : Result Settings SettingFault → Result Settings ℕ
-numbered (Ok s) = Ok s
-numbered (Err fault) = Err (setting_number fault)
+abbrev pub settings_numbered : Result Settings SettingFault → Result Settings ℕ
+settings_numbered (Ok s) = Ok s
+settings_numbered (Err fault) = Err (setting_number fault)
 
 abbrev pub settings_with : Params → Timing → Result Settings ℕ
-settings_with p t = numbered (settings_of p t.rate t.second t.wait)
+settings_with p t = settings_numbered (settings_of p t.rate t.second t.wait)
 
 -- the settings, or the number of the first that is out of its range: the parameters come first
 abbrev pub settings_in : Result Params ℕ → Timing → Result Settings ℕ

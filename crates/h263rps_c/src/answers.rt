@@ -62,7 +62,7 @@ impl CMessage {
     };
 
     pub(crate) fn of(said: &Said) -> CMessage
-        ensures { result ≡ numbers.said_of said.now }
+        ensures { result ≡ numbers.c_message_of said.now }
     {
         CMessage {
             bytes: said.bytes,
@@ -71,7 +71,7 @@ impl CMessage {
     }
 
     fn maybe(said: &Option<Said>) -> CMessage
-        ensures { result ≡ numbers.said_in said.now }
+        ensures { result ≡ numbers.message_or_none said.now }
     {
         match said {
             None => CMessage::NOTHING,
@@ -100,7 +100,7 @@ fn fault_number(fault: PacketFault) -> u32
 
 // The bit at which the bytes have their fault; other faults have no place, and 0.
 fn place_of(fault: PacketFault) -> u32
-    ensures { result ≡ numbers.place_of fault }
+    ensures { result ≡ numbers.fault_place fault }
 {
     match fault {
         PacketFault::Bytes(fault) => fault.at,
@@ -256,7 +256,7 @@ impl Made {
 impl Reply {
     /// The answer as C has it.
     pub fn of(feedback: &Feedback) -> Reply
-        ensures { result ≡ numbers.reply_of feedback.now }
+        ensures { result ≡ numbers.reply_numbers feedback.now }
     {
         match feedback {
             Feedback::Noted => Reply { kind: 0, fault: 0 },

@@ -32,7 +32,7 @@ pub struct Asked {
 
 /// The format of a number.
 pub fn format_of(number: u32) -> Option<Format>
-    ensures { result ≡ asking.format_in number }
+    ensures { result ≡ asking.format_numbered number }
 {
     match number {
         1 => Some(Format::SubQcif),
@@ -43,7 +43,7 @@ pub fn format_of(number: u32) -> Option<Format>
 }
 
 fn clock_of(number: u16) -> Option<Clock>
-    ensures { result ≡ asking.clock_in number }
+    ensures { result ≡ asking.clock_numbered number }
 {
     match number {
         0 => Some(Clock::Standard),
@@ -127,7 +127,7 @@ impl Asked {
 
     /// The parameters, or the number of the first that is out of its range.
     pub fn params(&self) -> Result<Params, u32>
-        ensures value { result ≡ asking.params_of self.now }
+        ensures value { result ≡ asking.params_asked self.now }
         ensures in_range { IfOk result IsParams }
         ensures target { IfOk result (λ p. self.now.target ≤ 999999) }
     {
@@ -145,7 +145,7 @@ impl Asked {
 
     /// The same for an end that begins at a picture's number, up to 1,048,576.
     pub fn params_at(&self, number: u32) -> Result<Params, u32>
-        ensures value { result ≡ asking.params_at number (asking.params_of self.now) }
+        ensures value { result ≡ asking.params_at number (asking.params_asked self.now) }
         ensures in_range { IfOk result IsParams }
         ensures few { IfOk result (λ p. number ≤ 1048576) }
     {

@@ -74,7 +74,7 @@ fn reference_group(made: &Made) -> u32
 impl Statistics {
     /// Before anything.
     pub fn none() -> Statistics
-        ensures { result ≡ counts.none }
+        ensures { result ≡ counts.no_statistics }
     {
         Statistics {
             packets: 0,
@@ -89,7 +89,7 @@ impl Statistics {
 
     /// With a packet of so many bytes that a receiver answered.
     pub fn with_heard(&self, length: usize, answer: &Answer) -> Statistics
-        ensures { result ≡ counts.with_heard length answer.now self.now }
+        ensures { result ≡ counts.statistics_with_heard length answer.now self.now }
     {
         let faults = if answer.kind == 5 {
             tally(self.faults, fault_group(answer.fault))
@@ -105,7 +105,7 @@ impl Statistics {
 
     /// With a picture that a receiver played.
     pub fn with_played(&self, answer: &Answer) -> Statistics
-        ensures { result ≡ counts.with_played answer.now self.now }
+        ensures { result ≡ counts.statistics_with_played answer.now self.now }
     {
         Statistics {
             played: tally(self.played, answer.kind),
@@ -125,7 +125,7 @@ impl Statistics {
 
     /// With a packet of so many bytes.
     pub fn with_packet(&self, length: usize) -> Statistics
-        ensures { result ≡ counts.with_packet length self.now }
+        ensures { result ≡ counts.statistics_with_packet length self.now }
     {
         Statistics {
             packets: plus(self.packets, 1),
@@ -136,7 +136,7 @@ impl Statistics {
 
     /// With a message that a sender answered.
     pub fn with_reply(&self, reply: &Reply) -> Statistics
-        ensures { result ≡ counts.with_reply reply.now self.now }
+        ensures { result ≡ counts.statistics_with_reply reply.now self.now }
     {
         Statistics {
             noted: tally(self.noted, reply.kind),

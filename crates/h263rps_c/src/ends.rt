@@ -17,13 +17,13 @@ ghost use Rattle.receiver_end.specs.State as receivers;
 ghost use Rattle.receiver_end.specs.State.{plays_alone};
 ghost use Rattle.sender_end.specs.Known.{known_in};
 ghost use Rattle.sender_end.specs.Stands as senders;
-ghost use Rattle.h263rps_c.specs.Ends.{HoldsReceiver, HoldsSteered, ShowsPicture, packets_in};
-ghost use Rattle.h263rps_c.specs.Sending.{frame_of};
-ghost use Rattle.h263rps_c.specs.Steering.{Steering, next_after, run_after};
+ghost use Rattle.h263rps_c.specs.Ends.{HoldsReceiver, HoldsSteered, ShowsPicture, end_packets};
+ghost use Rattle.h263rps_c.specs.Sending.{frame_given};
+ghost use Rattle.h263rps_c.specs.Steering.{Steering, steered_next, steered_run};
 ghost use Rattle.h263rps_c.specs.Steering as steering;
 ghost use Rattle.h263rps_c.specs.Messages.{messages_of};
-ghost use Rattle.h263rps_c.specs.Pace.{pace_of, target_in};
-ghost use Rattle.h263rps_c.specs.Refusals.{refusal_in, next_refusal, play_refusal, capture_refusal, packet_refusal, target_refusal};
+ghost use Rattle.h263rps_c.specs.Pace.{target_pace, target_if_any};
+ghost use Rattle.h263rps_c.specs.Refusals.{end_refusal, next_refusal, play_refusal, capture_refusal, packet_refusal, target_refusal};
 ghost use Rattle.h263rps_c.specs.Slots.{for_kind, for_receiver, for_sender, never};
 ghost use Rattle.h263rps_c.specs.declared.refusals.EndRefusal.TheVariants as refusals;
 
@@ -79,7 +79,7 @@ fn copy(to: &mut [u8], from: &[u8])
 
 // Plays, if the run hasn't ended.
 fn play_next(receiver: &mut Receiver) -> Result<Played, EndRefusal>
-    ensures refusal { refusal_in result ≡ next_refusal receiver.old }
+    ensures refusal { end_refusal result ≡ next_refusal receiver.old }
     ensures same { IfErr result (λ why. receiver.new ≡ receiver.old) }
     ensures params { receiver.new.params ≡ receiver.old.params }
     ensures told { (past : List ReceiverEntry) → receivers.Stands receiver.old past
@@ -103,7 +103,7 @@ fn play_next(receiver: &mut Receiver) -> Result<Played, EndRefusal>
 
 // Plays into room for a picture.
 fn play_into(receiver: &mut Receiver, picture: &mut [u8]) -> Result<Played, EndRefusal>
-    ensures refusal { refusal_in result ≡ play_refusal (length picture.old) receiver.old }
+    ensures refusal { end_refusal result ≡ play_refusal (length picture.old) receiver.old }
     ensures same { IfErr result (λ why. receiver.new ≡ receiver.old) }
     ensures unwritten { IfErr result (λ why. picture.new ≡ picture.old) }
     ensures params { receiver.new.params ≡ receiver.old.params }
@@ -208,7 +208,7 @@ impl End {
 
     /// Gives a packet to a receiver.
     pub fn arrival(&mut self, bytes: &[u8]) -> Result<Arrival, EndRefusal>
-        ensures refusal { refusal_in result ≡ for_receiver never (Some self.old) }
+        ensures refusal { end_refusal result ≡ for_receiver never (Some self.old) }
         ensures same { IfErr result (λ why. self.new ≡ self.old) }
         ensures untaken { IfOk result (λ x. takes x.heard ≡ false → self.new ≡ self.old) }
         ensures stands { (p : Params) (past : List ReceiverEntry)
@@ -231,7 +231,7 @@ impl End {
 
     /// Plays a receiver's next picture, which stays where it is.
     pub fn next(&mut self) -> Result<Played, EndRefusal>
-        ensures refusal { refusal_in result ≡ for_receiver next_refusal (Some self.old) }
+        ensures refusal { end_refusal result ≡ for_receiver next_refusal (Some self.old) }
         ensures same { IfErr result (λ why. self.new ≡ self.old) }
         ensures told { (p : Params) (past : List ReceiverEntry)
             → HoldsReceiver p past (Some self.old) → IfOk result (λ played. IsPlayed p.clock played
@@ -256,7 +256,7 @@ impl End {
 
     /// The samples that a receiver shows, lent.
     pub fn shown(&self) -> Result<&[u8], EndRefusal>
-        ensures refusal { refusal_in result ≡ for_receiver never (Some self.now) }
+        ensures refusal { end_refusal result ≡ for_receiver never (Some self.now) }
         ensures shown { IfOk result (λ samples. ShowsPicture (Some self.now) samples.now) }
     {
         match self {
@@ -269,7 +269,7 @@ impl End {
 
     /// Plays a receiver's next picture into room for it.
     pub fn play(&mut self, picture: &mut [u8]) -> Result<Played, EndRefusal>
-        ensures refusal { refusal_in result
+        ensures refusal { end_refusal result
             ≡ for_receiver (play_refusal (length picture.old)) (Some self.old) }
         ensures same { IfErr result (λ why. self.new ≡ self.old) }
         ensures unwritten { IfErr result (λ why. picture.new ≡ picture.old) }
@@ -299,20 +299,20 @@ impl End {
 
     /// Captures a sender's next picture, with these messages in its header.
     pub fn code(&mut self, bytes: &[u8], back: &[CMessage]) -> Result<Coded, EndRefusal>
-        ensures refusal { refusal_in result
+        ensures refusal { end_refusal result
             ≡ for_sender (capture_refusal bytes.now back.now) (Some self.old) }
         ensures same { IfErr result (λ why. self.new ≡ self.old) }
-        ensures count { IfOk result (λ coded. coded.packets ≡ length (packets_in (Some self.new))) }
+        ensures count { IfOk result (λ coded. coded.packets ≡ length (end_packets (Some self.new))) }
         ensures steers { (p : Params) (fits : Bool) (first : ℕ) (past : List Steering)
             (messages : List Message) → HoldsSteered p fits first past (Some self.old)
             → messages_of p.clock back.now ≡ Some messages → IsOk result
-            → HoldsSteered p fits first (steering.Capture (frame_of p bytes.now messages) ∷ past)
+            → HoldsSteered p fits first (steering.Capture (frame_given p bytes.now messages) ∷ past)
             (Some self.new) }
         ensures makes { (p : Params) (fits : Bool) (first : ℕ) (past : List Steering)
             (messages : List Message) → HoldsSteered p fits first past (Some self.old)
             → messages_of p.clock back.now ≡ Some messages → IfOk result (λ coded.
-            senders.Describes (length (run_after p fits (target_in first) past).run.coded)
-            (next_after p fits (target_in first) (frame_of p bytes.now messages) past) coded) }
+            senders.Describes (length (steered_run p fits (target_if_any first) past).run.coded)
+            (steered_next p fits (target_if_any first) (frame_given p bytes.now messages) past) coded) }
     {
         match self {
             End::Sending(sending) => sending.code(bytes, back),
@@ -325,20 +325,20 @@ impl End {
     /// Copies packet i of the picture that a sender coded last to the start of a room, and says how
     /// many bytes it has.
     pub fn packet(&self, i: u32, room: &mut [u8]) -> Result<usize, EndRefusal>
-        ensures refusal { refusal_in result
+        ensures refusal { end_refusal result
             ≡ for_sender (packet_refusal i (length room.old)) (Some self.now) }
         ensures unwritten { IfErr result (λ why. room.new ≡ room.old) }
         ensures count { IfOk result (λ count. count
-            ≡ length (slice_index_or (packets_in (Some self.now)) i [])) }
+            ≡ length (slice_index_or (end_packets (Some self.now)) i [])) }
         ensures written { IfOk result (λ count. room.new
-            ≡ slice_index_or (packets_in (Some self.now)) i [] ++ drop count room.old) }
+            ≡ slice_index_or (end_packets (Some self.now)) i [] ++ drop count room.old) }
         ensures enough { (p : Params) (fits : Bool) (first : ℕ) (past : List Steering)
             → HoldsSteered p fits first past (Some self.now)
             → result ≡ Err refusals.ShortRoom → length room.old < p.limit }
         ensures steers { (p : Params) (fits : Bool) (first : ℕ) (past : List Steering)
             → HoldsSteered p fits first past (Some self.now) → IsOk result
-            → slice_index_or (packets_in (Some self.now)) i []
-            ≡ slice_index_or (senders.packets_after p (run_after p fits (target_in first) past)) i [] }
+            → slice_index_or (end_packets (Some self.now)) i []
+            ≡ slice_index_or (senders.packets_after p (steered_run p fits (target_if_any first) past)) i [] }
     {
         match self {
             End::Sending(sending) => sending.packet(i, room),
@@ -350,18 +350,18 @@ impl End {
 
     /// Gives a message to a sender.
     pub fn feedback(&mut self, bytes: &[u8]) -> Result<Feedback, EndRefusal>
-        ensures refusal { refusal_in result ≡ for_sender never (Some self.old) }
+        ensures refusal { end_refusal result ≡ for_sender never (Some self.old) }
         ensures same { IfErr result (λ why. self.new ≡ self.old) }
         ensures unnoted { IfOk result (λ answer.
             is_noted (senders.reply_of answer) ≡ false → self.new ≡ self.old) }
-        ensures packets { packets_in (Some self.new) ≡ packets_in (Some self.old) }
+        ensures packets { end_packets (Some self.new) ≡ end_packets (Some self.old) }
         ensures steers { (p : Params) (fits : Bool) (first : ℕ) (past : List Steering)
             → HoldsSteered p fits first past (Some self.old)
             → HoldsSteered p fits first (steering.Feedback bytes.now ∷ past) (Some self.new) }
         ensures replies { (p : Params) (fits : Bool) (first : ℕ) (past : List Steering)
             → HoldsSteered p fits first past (Some self.old) → IfOk result (λ answer.
             senders.reply_of answer ≡ feedback_answer (rules_of p)
-            (length (run_after p fits (target_in first) past).run.coded)
+            (length (steered_run p fits (target_if_any first) past).run.coded)
             (read_message p.clock bytes.now)) }
     {
         match self {
@@ -374,12 +374,12 @@ impl End {
 
     /// A sender follows this target from the next picture on, or none where it is 0.
     pub fn follow(&mut self, target: u32) -> Result<(), EndRefusal>
-        ensures refusal { refusal_in result ≡ for_sender (target_refusal target) (Some self.old) }
+        ensures refusal { end_refusal result ≡ for_sender (target_refusal target) (Some self.old) }
         ensures same { IfErr result (λ why. self.new ≡ self.old) }
-        ensures packets { packets_in (Some self.new) ≡ packets_in (Some self.old) }
+        ensures packets { end_packets (Some self.new) ≡ end_packets (Some self.old) }
         ensures steers { (p : Params) (fits : Bool) (first : ℕ) (past : List Steering)
             → HoldsSteered p fits first past (Some self.old) → IsOk result
-            → HoldsSteered p fits first (steering.Target (target_in target) ∷ past) (Some self.new) }
+            → HoldsSteered p fits first (steering.Target (target_if_any target) ∷ past) (Some self.new) }
     {
         match self {
             End::Sending(sending) => sending.follow(target),
@@ -391,9 +391,9 @@ impl End {
 
     /// A sender forgets the pictures that were coded.
     pub fn forget(&mut self) -> Result<(), EndRefusal>
-        ensures refusal { refusal_in result ≡ for_sender never (Some self.old) }
+        ensures refusal { end_refusal result ≡ for_sender never (Some self.old) }
         ensures same { IfErr result (λ why. self.new ≡ self.old) }
-        ensures packets { packets_in (Some self.new) ≡ packets_in (Some self.old) }
+        ensures packets { end_packets (Some self.new) ≡ end_packets (Some self.old) }
         ensures steers { (p : Params) (fits : Bool) (first : ℕ) (past : List Steering)
             → HoldsSteered p fits first past (Some self.old) → IsOk result
             → HoldsSteered p fits first (steering.Forget ∷ past) (Some self.new) }
@@ -411,10 +411,10 @@ impl End {
 
     /// How many pictures a sender has coded.
     pub fn sent(&self) -> Result<u32, EndRefusal>
-        ensures refusal { refusal_in result ≡ for_sender never (Some self.now) }
+        ensures refusal { end_refusal result ≡ for_sender never (Some self.now) }
         ensures steers { (p : Params) (fits : Bool) (first : ℕ) (past : List Steering)
             → HoldsSteered p fits first past (Some self.now) → IfOk result (λ count.
-            count ≡ length (run_after p fits (target_in first) past).run.coded) }
+            count ≡ length (steered_run p fits (target_if_any first) past).run.coded) }
     {
         match self {
             End::Sending(sending) => Ok(sending.sent()),
@@ -426,10 +426,10 @@ impl End {
 
     /// How many pictures a sender knows to be complete, of those to which its next one may refer.
     pub fn known(&self) -> Result<u32, EndRefusal>
-        ensures refusal { refusal_in result ≡ for_sender never (Some self.now) }
+        ensures refusal { end_refusal result ≡ for_sender never (Some self.now) }
         ensures steers { (p : Params) (fits : Bool) (first : ℕ) (past : List Steering)
             → HoldsSteered p fits first past (Some self.now) → IfOk result (λ count.
-            count ≡ known_in p (run_after p fits (target_in first) past)) }
+            count ≡ known_in p (steered_run p fits (target_if_any first) past)) }
     {
         match self {
             End::Sending(sending) => Ok(sending.known()),
@@ -441,7 +441,7 @@ impl End {
 
     /// How many pictures a receiver has played.
     pub fn played(&self) -> Result<u32, EndRefusal>
-        ensures refusal { refusal_in result ≡ for_receiver never (Some self.now) }
+        ensures refusal { end_refusal result ≡ for_receiver never (Some self.now) }
         ensures stands { (p : Params) (past : List ReceiverEntry)
             → HoldsReceiver p past (Some self.now) → IfOk result (λ count.
             count ≡ (receivers.run_of p past).played) }

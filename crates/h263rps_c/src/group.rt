@@ -5,16 +5,16 @@ ghost use Rattle.back_messages.specs.declared.message.Message.{Message};
 ghost use Rattle.call_decoding.specs.Rules.{rules_of};
 ghost use Rattle.group_sender.specs.Holding.{answer_to, group_packets, next_of_group};
 ghost use Rattle.group_sender.specs.Running.{newest_of_all, waited_for};
-ghost use Rattle.h263rps_c.specs.Asked.{params_of};
+ghost use Rattle.h263rps_c.specs.Asked.{params_asked};
 ghost use Rattle.h263rps_c.specs.Counting as counts;
 ghost use Rattle.h263rps_c.specs.Ends.{TellsCoded};
 ghost use Rattle.h263rps_c.specs.Groups.{HoldsKept, Managing, TellsSaid, for_group, group_after, group_fault, group_pace};
 ghost use Rattle.h263rps_c.specs.Groups.{group_packets_in, group_refusal, known_in_group, number_or_most, place_refusal, said_refusal};
 ghost use Rattle.h263rps_c.specs.Groups as groups;
 ghost use Rattle.h263rps_c.specs.Messages.{messages_of};
-ghost use Rattle.h263rps_c.specs.Pace.{target_in};
+ghost use Rattle.h263rps_c.specs.Pace.{target_if_any};
 ghost use Rattle.h263rps_c.specs.Refusals.{capture_refusal, packet_refusal, quant_refusal, refusal_number, status_of, target_refusal};
-ghost use Rattle.h263rps_c.specs.Sending.{frame_of};
+ghost use Rattle.h263rps_c.specs.Sending.{frame_given};
 ghost use Rattle.h263rps_c.specs.Slots.{never};
 ghost use Rattle.h263rps_c.specs.declared.refusals.EndRefusal.TheVariants as refusals;
 
@@ -35,15 +35,15 @@ pub extern "C" fn h263rps_raw_group_start(
     fault: &mut u32,
 ) -> u32
     ensures result { result ≢ refusal_number refusals.NoMemory
-        → result ≡ status_of (group_refusal slot.old.handle.inside (params_of asked.now)) }
+        → result ≡ status_of (group_refusal slot.old.handle.inside (params_asked asked.now)) }
     ensures memory { result ≡ refusal_number refusals.NoMemory
-        → group_refusal slot.old.handle.inside (params_of asked.now) ≡ None }
+        → group_refusal slot.old.handle.inside (params_asked asked.now) ≡ None }
     ensures same { result ≢ 0 → slot.new.handle.inside ≡ slot.old.handle.inside }
     ensures counts { result ≢ 0 → slot.new.counted ≡ slot.old.counted }
-    ensures nothing { result ≡ 0 → slot.new.counted ≡ counts.none }
+    ensures nothing { result ≡ 0 → slot.new.counted ≡ counts.no_statistics }
     ensures fault { fault.new
-        ≡ group_fault slot.old.handle.inside (params_of asked.now) fault.old }
-    ensures stands { result ≡ 0 → IfOk (params_of asked.now)
+        ≡ group_fault slot.old.handle.inside (params_asked asked.now) fault.old }
+    ensures stands { result ≡ 0 → IfOk (params_asked asked.now)
         (λ p. HoldsKept p asked.now.target [] slot.new.handle.inside) }
 {
     if slot.is_started() {
@@ -126,14 +126,14 @@ pub extern "C" fn h263rps_raw_group_code(
     ensures stands { (p : Params) (first : ℕ) (past : List Managing) (back : List Message)
         → HoldsKept p first past slot.old.handle.inside
         → messages_of p.clock messages.now ≡ Some back → result ≡ 0
-        → HoldsKept p first (groups.Capture (frame_of p picture.now back) ∷ past)
+        → HoldsKept p first (groups.Capture (frame_given p picture.now back) ∷ past)
         slot.new.handle.inside }
     ensures makes { (p : Params) (first : ℕ) (past : List Managing) (back : List Message)
         → HoldsKept p first past slot.old.handle.inside
         → messages_of p.clock messages.now ≡ Some back → result ≡ 0
-        → TellsCoded (length (group_after p (target_in first) past).coded)
-        (next_of_group p (group_pace p (target_in first) past) (frame_of p picture.now back)
-        (group_after p (target_in first) past)) made.new }
+        → TellsCoded (length (group_after p (target_if_any first) past).coded)
+        (next_of_group p (group_pace p (target_if_any first) past) (frame_given p picture.now back)
+        (group_after p (target_if_any first) past)) made.new }
 {
     if !slot.is_started() {
         return EndRefusal::NotStarted.number();
@@ -161,7 +161,7 @@ pub extern "C" fn h263rps_raw_group_packet(
     ensures same { slot.new.handle.inside ≡ slot.old.handle.inside }
     ensures counts { result ≢ 0 → slot.new.counted ≡ slot.old.counted }
     ensures counted { result ≡ 0
-        → slot.new.counted ≡ counts.with_packet count.new slot.old.counted }
+        → slot.new.counted ≡ counts.statistics_with_packet count.new slot.old.counted }
     ensures uncounted { result ≢ 0 → count.new ≡ count.old }
     ensures unwritten { result ≢ 0 → room.new ≡ room.old }
     ensures count { result ≡ 0 → count.new
@@ -176,7 +176,7 @@ pub extern "C" fn h263rps_raw_group_packet(
     ensures stands { (p : Params) (first : ℕ) (past : List Managing)
         → HoldsKept p first past slot.old.handle.inside → result ≡ 0
         → slice_index_or (group_packets_in slot.old.handle.inside) number []
-        ≡ slice_index_or (group_packets p (group_after p (target_in first) past)) number [] }
+        ≡ slice_index_or (group_packets p (group_after p (target_if_any first) past)) number [] }
 {
     if !slot.is_started() {
         return EndRefusal::NotStarted.number();
@@ -203,10 +203,10 @@ pub extern "C" fn h263rps_raw_group_feedback(
     ensures empty { slot.old.handle.inside ≡ None → result ≡ refusal_number refusals.NotStarted }
     ensures result { (p : Params) (first : ℕ) (past : List Managing)
         → HoldsKept p first past slot.old.handle.inside → result ≡ status_of (said_refusal receiver
-        (answer_to p receiver message.now (group_after p (target_in first) past))) }
+        (answer_to p receiver message.now (group_after p (target_if_any first) past))) }
     ensures counts { result ≢ 0 → slot.new.counted ≡ slot.old.counted }
     ensures counted { result ≡ 0
-        → slot.new.counted ≡ counts.with_reply reply.new slot.old.counted }
+        → slot.new.counted ≡ counts.statistics_with_reply reply.new slot.old.counted }
     ensures unanswered { result ≢ 0 → reply.new ≡ reply.old }
     // only a message that is noted changes anything
     ensures unnoted { result ≢ 0 → known_in_group slot.new.handle.inside
@@ -221,7 +221,7 @@ pub extern "C" fn h263rps_raw_group_feedback(
     ensures answer { (p : Params) (first : ℕ) (past : List Managing)
         → HoldsKept p first past slot.old.handle.inside → result ≡ 0
         → TellsSaid reply.new
-        (answer_to p receiver message.now (group_after p (target_in first) past)) }
+        (answer_to p receiver message.now (group_after p (target_if_any first) past)) }
 {
     if !slot.is_started() {
         return EndRefusal::NotStarted.number();
@@ -256,7 +256,7 @@ pub extern "C" fn h263rps_raw_group_waiting_for(slot: &mut GroupSlot, receiver: 
     ensures untold { result ≢ 0 → receiver.new ≡ receiver.old }
     ensures told { (p : Params) (first : ℕ) (past : List Managing)
         → HoldsKept p first past slot.old.handle.inside → receiver.new
-        ≡ number_or_most (waited_for (rules_of p) (group_after p (target_in first) past)) }
+        ≡ number_or_most (waited_for (rules_of p) (group_after p (target_if_any first) past)) }
 {
     if !slot.is_started() {
         return EndRefusal::NotStarted.number();
@@ -275,7 +275,7 @@ pub extern "C" fn h263rps_raw_group_reference(slot: &mut GroupSlot, number: &mut
     ensures untold { result ≢ 0 → number.new ≡ number.old }
     ensures told { (p : Params) (first : ℕ) (past : List Managing)
         → HoldsKept p first past slot.old.handle.inside → number.new
-        ≡ number_or_most (newest_of_all (rules_of p) (group_after p (target_in first) past)) }
+        ≡ number_or_most (newest_of_all (rules_of p) (group_after p (target_if_any first) past)) }
 {
     if !slot.is_started() {
         return EndRefusal::NotStarted.number();
@@ -295,7 +295,7 @@ pub extern "C" fn h263rps_raw_group_target(slot: &mut GroupSlot, target: u32) ->
         ≡ group_packets_in slot.old.handle.inside }
     ensures stands { (p : Params) (first : ℕ) (past : List Managing)
         → HoldsKept p first past slot.old.handle.inside → result ≡ 0
-        → HoldsKept p first (groups.Target (target_in target) ∷ past) slot.new.handle.inside }
+        → HoldsKept p first (groups.Target (target_if_any target) ∷ past) slot.new.handle.inside }
 {
     if !slot.is_started() {
         return EndRefusal::NotStarted.number();
@@ -337,7 +337,7 @@ pub extern "C" fn h263rps_raw_group_sent(slot: &mut GroupSlot, count: &mut u32) 
     ensures uncounted { result ≢ 0 → count.new ≡ count.old }
     ensures told { (p : Params) (first : ℕ) (past : List Managing)
         → HoldsKept p first past slot.old.handle.inside
-        → count.new ≡ length (group_after p (target_in first) past).coded }
+        → count.new ≡ length (group_after p (target_if_any first) past).coded }
 {
     if !slot.is_started() {
         return EndRefusal::NotStarted.number();
@@ -370,7 +370,7 @@ pub extern "C" fn h263rps_raw_group_statistics(
 pub extern "C" fn h263rps_raw_group_finish(alloc: Global, slot: &mut GroupSlot) -> u32
     ensures result { result ≡ status_of (for_group never slot.old.handle.inside) }
     ensures empty { slot.new.handle.inside ≡ None }
-    ensures nothing { result ≡ 0 → slot.new.counted ≡ counts.none }
+    ensures nothing { result ≡ 0 → slot.new.counted ≡ counts.no_statistics }
 {
     if !slot.is_started() {
         return EndRefusal::NotStarted.number();

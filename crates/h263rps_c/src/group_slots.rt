@@ -100,7 +100,7 @@ impl GroupSlot {
     pub fn vacant(alloc: Global) -> GroupSlot
         ensures kind { result.kind ≡ 0 }
         ensures inside { result.handle.inside ≡ None }
-        ensures counted { result.counted ≡ counts.none }
+        ensures counted { result.counted ≡ counts.no_statistics }
     {
         GroupSlot {
             kind: 0,
@@ -118,7 +118,7 @@ impl GroupSlot {
 
     fn occupied(group: Box<KeptGroup>) -> GroupSlot
         ensures inside { result.handle.inside ≡ Some group.value }
-        ensures counted { result.counted ≡ counts.none }
+        ensures counted { result.counted ≡ counts.no_statistics }
     {
         GroupSlot {
             kind: 1,
@@ -156,7 +156,7 @@ fn exchanged(slot: &mut GroupSlot, new: GroupSlot) -> GroupSlot
 /// Takes the group out of a slot.
 pub fn taken(alloc: Global, slot: &mut GroupSlot) -> Option<Box<KeptGroup>>
     ensures empty { slot.new.handle.inside ≡ None }
-    ensures counted { slot.new.counted ≡ counts.none }
+    ensures counted { slot.new.counted ≡ counts.no_statistics }
     ensures some { IfSome result (λ g. slot.old.handle.inside ≡ Some g.value) }
     ensures none { result ≡ None → slot.old.handle.inside ≡ None }
 {
@@ -167,7 +167,7 @@ pub fn taken(alloc: Global, slot: &mut GroupSlot) -> Option<Box<KeptGroup>>
 /// Puts a group into a slot, which has counted nothing then; what was in it is let go.
 pub fn put(slot: &mut GroupSlot, group: Box<KeptGroup>)
     ensures inside { slot.new.handle.inside ≡ Some group.value }
-    ensures counted { slot.new.counted ≡ counts.none }
+    ensures counted { slot.new.counted ≡ counts.no_statistics }
 {
     let new = GroupSlot::occupied(group);
     let _old = exchanged(slot, new).into_box();

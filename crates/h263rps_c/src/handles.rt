@@ -24,9 +24,9 @@ pub struct Handle {
 }
 
 impl Model for Handle {
-    ghost use Rattle.h263rps_c.specs.Holds.{holds};
+    ghost use Rattle.h263rps_c.specs.Holds.{holds_end};
 
-    ghost also_owns = { λ h. holds h.alloc h.at h.inside };
+    ghost also_owns = { λ h. holds_end h.alloc h.at h.inside };
 }
 
 /// A box as its pointer.
@@ -128,7 +128,7 @@ impl Slot {
     pub fn vacant(alloc: Global) -> Slot
         ensures kind { result.kind ≡ 0 }
         ensures inside { result.handle.inside ≡ None }
-        ensures counted { result.counted ≡ counts.none }
+        ensures counted { result.counted ≡ counts.no_statistics }
     {
         Slot {
             kind: 0,
@@ -146,7 +146,7 @@ impl Slot {
 
     fn occupied(end: Box<End>) -> Slot
         ensures inside { result.handle.inside ≡ Some end.value }
-        ensures counted { result.counted ≡ counts.none }
+        ensures counted { result.counted ≡ counts.no_statistics }
     {
         Slot {
             kind: 1,
@@ -184,7 +184,7 @@ fn exchanged(slot: &mut Slot, new: Slot) -> Slot
 /// Takes the end out of a slot.
 pub fn taken(alloc: Global, slot: &mut Slot) -> Option<Box<End>>
     ensures empty { slot.new.handle.inside ≡ None }
-    ensures counted { slot.new.counted ≡ counts.none }
+    ensures counted { slot.new.counted ≡ counts.no_statistics }
     ensures some { IfSome result (λ end. slot.old.handle.inside ≡ Some end.value) }
     ensures none { result ≡ None → slot.old.handle.inside ≡ None }
 {
@@ -195,7 +195,7 @@ pub fn taken(alloc: Global, slot: &mut Slot) -> Option<Box<End>>
 /// Puts an end into a slot, which has counted nothing then; what was in it is let go.
 pub fn put(slot: &mut Slot, end: Box<End>)
     ensures inside { slot.new.handle.inside ≡ Some end.value }
-    ensures counted { slot.new.counted ≡ counts.none }
+    ensures counted { slot.new.counted ≡ counts.no_statistics }
 {
     let new = Slot::occupied(end);
     let _old = exchanged(slot, new).into_box();

@@ -4,7 +4,7 @@ ghost use Rattle.h263_types.specs.declared.params.Params.{Params};
 ghost use Rattle.call_model.specs.Receiving.{ReceiverEntry};
 ghost use Rattle.receiver_end.specs.State as receivers;
 ghost use Rattle.receiver_end.specs.State.{plays_alone};
-ghost use Rattle.h263rps_c.specs.Asked.{params_at, params_of};
+ghost use Rattle.h263rps_c.specs.Asked.{params_at, params_asked};
 ghost use Rattle.h263rps_c.specs.Counting as counts;
 ghost use Rattle.h263rps_c.specs.Ends.{HoldsReceiver};
 ghost use Rattle.h263rps_c.specs.Refusals.{refusal_number, status_of};
@@ -29,14 +29,14 @@ pub extern "C" fn h263rps_raw_receiver_start_at(
     fault: &mut u32,
 ) -> u32
     ensures result { result ≢ refusal_number refusals.NoMemory → result
-        ≡ status_of (start_refusal slot.old.handle.inside (params_at number (params_of asked.now))) }
+        ≡ status_of (start_refusal slot.old.handle.inside (params_at number (params_asked asked.now))) }
     ensures memory { result ≡ refusal_number refusals.NoMemory
-        → start_refusal slot.old.handle.inside (params_at number (params_of asked.now)) ≡ None }
+        → start_refusal slot.old.handle.inside (params_at number (params_asked asked.now)) ≡ None }
     ensures same { result ≢ 0 → Stays slot.old slot.new }
-    ensures nothing { result ≡ 0 → slot.new.counted ≡ counts.none }
+    ensures nothing { result ≡ 0 → slot.new.counted ≡ counts.no_statistics }
     ensures fault { fault.new
-        ≡ fault_after slot.old.handle.inside (params_at number (params_of asked.now)) fault.old }
-    ensures stands { result ≡ 0 → IfOk (params_at number (params_of asked.now))
+        ≡ fault_after slot.old.handle.inside (params_at number (params_asked asked.now)) fault.old }
+    ensures stands { result ≡ 0 → IfOk (params_at number (params_asked asked.now))
         (λ p. HoldsReceiver p (plays_alone number) slot.new.handle.inside) }
 {
     if slot.is_started() {

@@ -4,12 +4,12 @@ ghost use Rattle.session_intake.specs.declared.settings.Settings.{Settings};
 ghost use Rattle.session_intake.specs.Settings.{IsSettings};
 ghost use Rattle.session_runs.specs.Following.{due_next};
 ghost use Rattle.session_runs.specs.Kept.{config_in};
-ghost use Rattle.call_session.specs.Sessions.{Anew, Asked, Datagram, DatagramOf, Ended, Entry, Turn, at};
+ghost use Rattle.call_session.specs.Sessions.{Anew, Asked, Datagram, DatagramOf, Ended, SessionEntry, Turn, at};
 ghost use Rattle.call_session.specs.Sessions.{missing_at, outcome_of, outcome_of_one, played_run};
-ghost use Rattle.call_session.specs.Sessions.{told_of, told_of_one};
+ghost use Rattle.call_session.specs.Sessions.{told_of_datagram, told_of_one};
 ghost use Rattle.h263rps_c.specs.SessionNumbers.{counts_numbers, nack_numbers, time_or_never};
 ghost use Rattle.h263rps_c.specs.Sessions.{HoldsSession, ShowsScreen, TellsOutcome, TellsTurn};
-ghost use Rattle.h263rps_c.specs.Sessions.{source_after, source_of, state_after};
+ghost use Rattle.h263rps_c.specs.Sessions.{source_after, played_source, state_after};
 ghost use Rattle.h263rps_c.specs.declared.refusals.EndRefusal.TheVariants as refusals;
 
 use crate::answers::number_or_zero;
@@ -72,11 +72,11 @@ impl KeptSession {
 
     /// A datagram came.
     pub fn arrival(&mut self, bytes: &[u8], now: u64) -> CArrived
-        ensures answer { (s : Settings) (past : List Entry) → HoldsSession s past (Some self.old)
+        ensures answer { (s : Settings) (past : List SessionEntry) → HoldsSession s past (Some self.old)
             → TellsOutcome s.params.clock result
             (outcome_of (config_in s) bytes.now now (state_after s past))
-            (told_of (config_in s) bytes.now now (state_after s past)) }
-        ensures stands { (s : Settings) (past : List Entry) → HoldsSession s past (Some self.old)
+            (told_of_datagram (config_in s) bytes.now now (state_after s past)) }
+        ensures stands { (s : Settings) (past : List SessionEntry) → HoldsSession s past (Some self.old)
             → HoldsSession s (Datagram bytes.now now ∷ past) (Some self.new) }
     {
         CArrived::of(&self.session.arrival(bytes, now))
@@ -84,11 +84,11 @@ impl KeptSession {
 
     /// A datagram came, where those of one stream alone are taken.
     pub fn arrival_of(&mut self, source: u32, bytes: &[u8], now: u64) -> CArrived
-        ensures answer { (s : Settings) (past : List Entry) → HoldsSession s past (Some self.old)
+        ensures answer { (s : Settings) (past : List SessionEntry) → HoldsSession s past (Some self.old)
             → TellsOutcome s.params.clock result
             (outcome_of_one (config_in s) source bytes.now now (state_after s past))
             (told_of_one (config_in s) source bytes.now now (state_after s past)) }
-        ensures stands { (s : Settings) (past : List Entry) → HoldsSession s past (Some self.old)
+        ensures stands { (s : Settings) (past : List SessionEntry) → HoldsSession s past (Some self.old)
             → HoldsSession s (DatagramOf source bytes.now now ∷ past) (Some self.new) }
     {
         CArrived::of(&self.session.arrival_of(source, bytes, now))
@@ -96,10 +96,10 @@ impl KeptSession {
 
     /// The next packets to ask for again.
     pub fn missing(&mut self, round_trip: u64, now: u64) -> CNack
-        ensures answer { (s : Settings) (past : List Entry) → HoldsSession s past (Some self.old)
+        ensures answer { (s : Settings) (past : List SessionEntry) → HoldsSession s past (Some self.old)
             → result ≡ nack_numbers
             (missing_at (config_in s) round_trip (at now (state_after s past))) }
-        ensures stands { (s : Settings) (past : List Entry) → HoldsSession s past (Some self.old)
+        ensures stands { (s : Settings) (past : List SessionEntry) → HoldsSession s past (Some self.old)
             → HoldsSession s (Asked round_trip now ∷ past) (Some self.new) }
     {
         CNack::of(self.session.missing(round_trip, now))
@@ -107,7 +107,7 @@ impl KeptSession {
 
     /// A stream has ended.
     pub fn bye(&mut self, source: u32, now: u64)
-        ensures { (s : Settings) (past : List Entry) → HoldsSession s past (Some self.old)
+        ensures { (s : Settings) (past : List SessionEntry) → HoldsSession s past (Some self.old)
             → HoldsSession s (Ended source now ∷ past) (Some self.new) }
     {
         self.session.bye(source, now);
@@ -115,7 +115,7 @@ impl KeptSession {
 
     /// No stream has a run any more.
     pub fn reset(&mut self, now: u64)
-        ensures { (s : Settings) (past : List Entry) → HoldsSession s past (Some self.old)
+        ensures { (s : Settings) (past : List SessionEntry) → HoldsSession s past (Some self.old)
             → HoldsSession s (Anew now ∷ past) (Some self.new) }
     {
         self.session.reset(now);
@@ -123,7 +123,7 @@ impl KeptSession {
 
     /// When something is due next.
     pub fn due(&self) -> u64
-        ensures { (s : Settings) (past : List Entry) → HoldsSession s past (Some self.now)
+        ensures { (s : Settings) (past : List SessionEntry) → HoldsSession s past (Some self.now)
             → result ≡ time_or_never (due_next (config_in s) (state_after s past).follows) }
     {
         time_or_never(self.session.due())
@@ -131,11 +131,11 @@ impl KeptSession {
 
     /// Plays the next picture that is due by now.
     pub fn play(&mut self, now: u64) -> CTurn
-        ensures answer { (s : Settings) (past : List Entry) → HoldsSession s past (Some self.old)
+        ensures answer { (s : Settings) (past : List SessionEntry) → HoldsSession s past (Some self.old)
             → let c = config_in s in let st = at now (state_after s past) in
             TellsTurn c st result (played_run c st)
-            (source_of s (Turn now ∷ past) (played_run c st)) }
-        ensures stands { (s : Settings) (past : List Entry) → HoldsSession s past (Some self.old)
+            (played_source s (Turn now ∷ past) (played_run c st)) }
+        ensures stands { (s : Settings) (past : List SessionEntry) → HoldsSession s past (Some self.old)
             → HoldsSession s (Turn now ∷ past) (Some self.new) }
     {
         match self.session.play(now) {
@@ -154,7 +154,7 @@ impl KeptSession {
 
     /// The SSRC of the stream of this run, if it has one.
     pub fn source(&self, run: Run) -> Option<u32>
-        ensures { (s : Settings) (past : List Entry) → HoldsSession s past (Some self.now)
+        ensures { (s : Settings) (past : List SessionEntry) → HoldsSession s past (Some self.now)
             → result ≡ source_after s past run }
     {
         self.session.source(run)
@@ -162,7 +162,7 @@ impl KeptSession {
 
     /// What was counted.
     pub fn counts(&self) -> CCounts
-        ensures { (s : Settings) (past : List Entry) → HoldsSession s past (Some self.now)
+        ensures { (s : Settings) (past : List SessionEntry) → HoldsSession s past (Some self.now)
             → result ≡ counts_numbers (state_after s past).counts }
     {
         CCounts::of(&self.session.statistics())

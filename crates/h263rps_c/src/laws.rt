@@ -1,5 +1,5 @@
 //! What steering a sender comes to. Each law is the contract of a function that does nothing.
-ghost use Rattle.h263rps_c.specs.Steering.{ForgetIsForGood, ForgetIsIntra, PlainIsRun, QuantiserFits, QuantiserIs};
+ghost use Rattle.h263rps_c.specs.Steering.{ForgetIsForGood, SteeredForgetIsIntra, PlainIsRun, QuantiserFits, QuantiserIs};
 
 use back_messages::MessageFault;
 use call_decoding::{Pictured, Styled};
@@ -16,7 +16,7 @@ use h263_types::Mb;
 pub fn steering()
     ensures quantiser { QuantiserIs }
     ensures fitted { QuantiserFits }
-    ensures intra { ForgetIsIntra }
+    ensures intra { SteeredForgetIsIntra }
     ensures for_good { ForgetIsForGood }
     ensures plain { PlainIsRun }
 {

@@ -1,11 +1,11 @@
 //! What follows a line, for C.
 ghost use Rattle.std.specs.Prelude.{◌≡◌, ◌≢◌, ◌≤◌, None, Some, IfErr, IfOk, IfSome};
 ghost use Rattle.line_follower.specs.declared.follower.Follower.{Follower};
-ghost use Rattle.line_follower.specs.Following.{after_sent, after_told, has_room, started};
+ghost use Rattle.line_follower.specs.Following.{follower_after_sent, after_told, has_room, started};
 ghost use Rattle.h263rps_c.specs.Counting as counts;
 ghost use Rattle.h263rps_c.specs.Lines.{HoldsLine, TellsShare, are_bounds, are_sizes, bounds_in};
 ghost use Rattle.h263rps_c.specs.Lines.{line_refusal, says_whole};
-ghost use Rattle.h263rps_c.specs.Refusals.{refusal_in, refusal_number, status_of};
+ghost use Rattle.h263rps_c.specs.Refusals.{end_refusal, refusal_number, status_of};
 ghost use Rattle.h263rps_c.specs.SessionNumbers.{bit};
 ghost use Rattle.h263rps_c.specs.Slots.{for_line};
 ghost use Rattle.h263rps_c.specs.Stays.{Stays};
@@ -124,10 +124,10 @@ impl End {
         packets: u16,
         now: u64,
     ) -> Result<(), EndRefusal>
-        ensures refusal { refusal_in result ≡ for_line (Some self.old) }
+        ensures refusal { end_refusal result ≡ for_line (Some self.old) }
         ensures same { IfErr result (λ why. self.new ≡ self.old) }
         ensures stands { (f : Follower) → HoldsLine f (Some self.old)
-            → HoldsLine (after_sent number bytes packets now f) (Some self.new) }
+            → HoldsLine (follower_after_sent number bytes packets now f) (Some self.new) }
     {
         match self {
             End::Sending(_) => Err(EndRefusal::OtherEnd),
@@ -142,7 +142,7 @@ impl End {
 
     /// A message came.
     pub fn line_told(&mut self, number: u32, is_whole: bool, now: u64) -> Result<(), EndRefusal>
-        ensures refusal { refusal_in result ≡ for_line (Some self.old) }
+        ensures refusal { end_refusal result ≡ for_line (Some self.old) }
         ensures same { IfErr result (λ why. self.new ≡ self.old) }
         ensures stands { (f : Follower) → HoldsLine f (Some self.old)
             → HoldsLine (after_told number is_whole now f) (Some self.new) }
@@ -160,7 +160,7 @@ impl End {
 
     /// Whether the next frame may go out.
     pub fn line_has_room(&self, now: u64) -> Result<bool, EndRefusal>
-        ensures refusal { refusal_in result ≡ for_line (Some self.now) }
+        ensures refusal { end_refusal result ≡ for_line (Some self.now) }
         ensures told { (f : Follower) → HoldsLine f (Some self.now)
             → IfOk result (λ has. has ≡ has_room now f) }
     {
@@ -174,7 +174,7 @@ impl End {
 
     /// What is asked of it.
     pub fn line_share(&self, share: Share) -> Result<u32, EndRefusal>
-        ensures refusal { refusal_in result ≡ for_line (Some self.now) }
+        ensures refusal { end_refusal result ≡ for_line (Some self.now) }
         ensures told { (f : Follower) → HoldsLine f (Some self.now)
             → IfOk result (TellsShare share f) }
     {
@@ -226,7 +226,7 @@ pub extern "C" fn h263rps_raw_line_start(
     ensures memory { result ≡ refusal_number refusals.NoMemory
         → line_refusal slot.old.handle.inside (bounds_in bounds.now) ≡ None }
     ensures same { result ≢ 0 → Stays slot.old slot.new }
-    ensures nothing { result ≡ 0 → slot.new.counted ≡ counts.none }
+    ensures nothing { result ≡ 0 → slot.new.counted ≡ counts.no_statistics }
     ensures stands { result ≡ 0 → IfSome (bounds_in bounds.now)
         (λ b. HoldsLine (started b now) slot.new.handle.inside) }
 {
@@ -258,7 +258,7 @@ pub extern "C" fn h263rps_raw_line_sent(
     ensures same { result ≢ 0 → Stays slot.old slot.new }
     ensures counts { slot.new.counted ≡ slot.old.counted }
     ensures stands { (f : Follower) → HoldsLine f slot.old.handle.inside
-        → HoldsLine (after_sent number bytes packets now f) slot.new.handle.inside }
+        → HoldsLine (follower_after_sent number bytes packets now f) slot.new.handle.inside }
 {
     if !slot.is_started() {
         return EndRefusal::NotStarted.number();
@@ -363,7 +363,7 @@ pub extern "C" fn h263rps_raw_line_finish(alloc: Global, slot: &mut Slot) -> u32
     ensures result { result ≡ status_of (for_line slot.old.handle.inside) }
     ensures same { result ≢ 0 → Stays slot.old slot.new }
     ensures empty { result ≡ 0 → slot.new.handle.inside ≡ None }
-    ensures nothing { result ≡ 0 → slot.new.counted ≡ counts.none }
+    ensures nothing { result ≡ 0 → slot.new.counted ≡ counts.no_statistics }
 {
     if !slot.is_started() {
         return EndRefusal::NotStarted.number();

@@ -11,9 +11,9 @@ ghost use Rattle.group_sender.specs.Running.{newest_of_all, waited_for};
 ghost use Rattle.h263rps_c.specs.Groups.{HoldsKept, Managing, group_after, group_pace, place_refusal, said_refusal};
 ghost use Rattle.h263rps_c.specs.Groups as groups;
 ghost use Rattle.h263rps_c.specs.Messages.{messages_of};
-ghost use Rattle.h263rps_c.specs.Pace.{target_in};
-ghost use Rattle.h263rps_c.specs.Refusals.{capture_refusal, packet_refusal, quant_refusal, refusal_in, target_refusal};
-ghost use Rattle.h263rps_c.specs.Sending.{frame_of};
+ghost use Rattle.h263rps_c.specs.Pace.{target_if_any};
+ghost use Rattle.h263rps_c.specs.Refusals.{capture_refusal, packet_refusal, quant_refusal, end_refusal, target_refusal};
+ghost use Rattle.h263rps_c.specs.Sending.{frame_given};
 ghost use Rattle.h263rps_c.specs.declared.refusals.EndRefusal.TheVariants as refusals;
 
 use crate::MOST_PICTURES;
@@ -56,7 +56,7 @@ impl KeptGroup {
 
     /// A receiver joins at this place, and begins with the next picture.
     pub fn join(&mut self, receiver: u32) -> Result<(), EndRefusal>
-        ensures refusal { refusal_in result ≡ place_refusal receiver self.old.group.sender }
+        ensures refusal { end_refusal result ≡ place_refusal receiver self.old.group.sender }
         ensures same { IfErr result (λ why. self.new ≡ self.old) }
         ensures sender { self.new.group.sender ≡ self.old.group.sender }
         ensures stands { (p : Params) (first : ℕ) (past : List Managing)
@@ -72,7 +72,7 @@ impl KeptGroup {
 
     /// The receiver at this place leaves.
     pub fn leave(&mut self, receiver: u32) -> Result<(), EndRefusal>
-        ensures refusal { refusal_in result ≡ place_refusal receiver self.old.group.sender }
+        ensures refusal { end_refusal result ≡ place_refusal receiver self.old.group.sender }
         ensures same { IfErr result (λ why. self.new ≡ self.old) }
         ensures sender { self.new.group.sender ≡ self.old.group.sender }
         ensures stands { (p : Params) (first : ℕ) (past : List Managing)
@@ -88,7 +88,7 @@ impl KeptGroup {
 
     /// Captures the next picture, with these messages in its header.
     pub fn code(&mut self, bytes: &[u8], back: &[CMessage]) -> Result<Coded, EndRefusal>
-        ensures refusal { refusal_in result
+        ensures refusal { end_refusal result
             ≡ capture_refusal bytes.now back.now self.old.group.sender }
         ensures same { IfErr result (λ why. self.new ≡ self.old) }
         ensures count { IfOk result (λ coded.
@@ -96,14 +96,14 @@ impl KeptGroup {
         ensures stands { (p : Params) (first : ℕ) (past : List Managing)
             (messages : List Message) → HoldsKept p first past (Some self.old)
             → messages_of p.clock back.now ≡ Some messages → IsOk result
-            → HoldsKept p first (groups.Capture (frame_of p bytes.now messages) ∷ past)
+            → HoldsKept p first (groups.Capture (frame_given p bytes.now messages) ∷ past)
             (Some self.new) }
         ensures makes { (p : Params) (first : ℕ) (past : List Managing)
             (messages : List Message) → HoldsKept p first past (Some self.old)
             → messages_of p.clock back.now ≡ Some messages → IfOk result (λ coded.
-            senders.Describes (length (group_after p (target_in first) past).coded)
-            (next_of_group p (group_pace p (target_in first) past)
-            (frame_of p bytes.now messages) (group_after p (target_in first) past)) coded) }
+            senders.Describes (length (group_after p (target_if_any first) past).coded)
+            (next_of_group p (group_pace p (target_if_any first) past)
+            (frame_given p bytes.now messages) (group_after p (target_if_any first) past)) coded) }
     {
         if self.group.sent() >= MOST_PICTURES {
             return Err(EndRefusal::Ended);
@@ -125,7 +125,7 @@ impl KeptGroup {
 
     /// Copies packet i of the last picture to the start of a room, and says how many bytes it has.
     pub fn packet(&self, i: u32, room: &mut [u8]) -> Result<usize, EndRefusal>
-        ensures refusal { refusal_in result
+        ensures refusal { end_refusal result
             ≡ packet_refusal i (length room.old) self.now.group.sender }
         ensures unwritten { IfErr result (λ why. room.new ≡ room.old) }
         ensures count { IfOk result (λ count.
@@ -137,7 +137,7 @@ impl KeptGroup {
         ensures stands { (p : Params) (first : ℕ) (past : List Managing)
             → HoldsKept p first past (Some self.now) → IsOk result
             → slice_index_or self.now.group.sender.packets i []
-            ≡ slice_index_or (group_packets p (group_after p (target_in first) past)) i [] }
+            ≡ slice_index_or (group_packets p (group_after p (target_if_any first) past)) i [] }
     {
         if i >= self.packets {
             return Err(EndRefusal::NoPacket);
@@ -153,8 +153,8 @@ impl KeptGroup {
     /// Takes the bytes of a message of the receiver at this place.
     pub fn feedback(&mut self, receiver: u32, bytes: &[u8]) -> Result<Feedback, EndRefusal>
         ensures refusal { (p : Params) (first : ℕ) (past : List Managing)
-            → HoldsKept p first past (Some self.old) → refusal_in result ≡ said_refusal receiver
-            (answer_to p receiver bytes.now (group_after p (target_in first) past)) }
+            → HoldsKept p first past (Some self.old) → end_refusal result ≡ said_refusal receiver
+            (answer_to p receiver bytes.now (group_after p (target_if_any first) past)) }
         ensures sender { self.new.group.sender ≡ self.old.group.sender }
         ensures unnoted { (result ≡ Ok Noted → ⊥)
             → self.new.group.members.items ≡ self.old.group.members.items }
@@ -164,7 +164,7 @@ impl KeptGroup {
         ensures answer { (p : Params) (first : ℕ) (past : List Managing)
             → HoldsKept p first past (Some self.old) → IfOk result (λ answer.
             Some (senders.reply_of answer)
-            ≡ answer_to p receiver bytes.now (group_after p (target_in first) past)) }
+            ≡ answer_to p receiver bytes.now (group_after p (target_if_any first) past)) }
     {
         if receiver >= PLACES {
             return Err(EndRefusal::BadParams);
@@ -179,7 +179,7 @@ impl KeptGroup {
     pub fn waiting_for(&self) -> Option<u32>
         ensures { (p : Params) (first : ℕ) (past : List Managing)
             → HoldsKept p first past (Some self.now)
-            → result ≡ waited_for (rules_of p) (group_after p (target_in first) past) }
+            → result ≡ waited_for (rules_of p) (group_after p (target_if_any first) past) }
     {
         self.group.waiting_for()
     }
@@ -188,19 +188,19 @@ impl KeptGroup {
     pub fn next_reference(&self) -> Option<u32>
         ensures { (p : Params) (first : ℕ) (past : List Managing)
             → HoldsKept p first past (Some self.now)
-            → result ≡ newest_of_all (rules_of p) (group_after p (target_in first) past) }
+            → result ≡ newest_of_all (rules_of p) (group_after p (target_if_any first) past) }
     {
         self.group.next_reference()
     }
 
     /// Follows this target from the next picture on, or none where it is 0.
     pub fn follow(&mut self, target: u32) -> Result<(), EndRefusal>
-        ensures refusal { refusal_in result ≡ target_refusal target self.old.group.sender }
+        ensures refusal { end_refusal result ≡ target_refusal target self.old.group.sender }
         ensures same { IfErr result (λ why. self.new ≡ self.old) }
         ensures packets { self.new.group.sender.packets ≡ self.old.group.sender.packets }
         ensures stands { (p : Params) (first : ℕ) (past : List Managing)
             → HoldsKept p first past (Some self.old) → IsOk result
-            → HoldsKept p first (groups.Target (target_in target) ∷ past) (Some self.new) }
+            → HoldsKept p first (groups.Target (target_if_any target) ∷ past) (Some self.new) }
     {
         if target > MOST_BYTES {
             return Err(EndRefusal::BadParams);
@@ -212,7 +212,7 @@ impl KeptGroup {
 
     /// Codes with this quantiser from the next picture on, and follows no target.
     pub fn fix(&mut self, quant: u8) -> Result<(), EndRefusal>
-        ensures refusal { refusal_in result ≡ quant_refusal quant self.old.group.sender }
+        ensures refusal { end_refusal result ≡ quant_refusal quant self.old.group.sender }
         ensures same { IfErr result (λ why. self.new ≡ self.old) }
         ensures packets { self.new.group.sender.packets ≡ self.old.group.sender.packets }
         ensures stands { (p : Params) (first : ℕ) (past : List Managing)
@@ -233,7 +233,7 @@ impl KeptGroup {
     pub fn sent(&self) -> u32
         ensures { (p : Params) (first : ℕ) (past : List Managing)
             → HoldsKept p first past (Some self.now)
-            → result ≡ length (group_after p (target_in first) past).coded }
+            → result ≡ length (group_after p (target_if_any first) past).coded }
     {
         self.group.sent()
     }

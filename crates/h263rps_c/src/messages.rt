@@ -2,7 +2,7 @@
 ghost use Rattle.std.specs.Prelude.{◌≡◌, ◌==◌, ◌||◌, ◌≤◌, IfSome, length, take};
 ghost use Rattle.std.specs.Option.{option_map};
 ghost use Rattle.picture_header.specs.Ranges.{AreMessages};
-ghost use Rattle.h263rps_c.specs.Messages.{IsPlace, messages_of, place_in, text_in};
+ghost use Rattle.h263rps_c.specs.Messages.{IsMessagePlace, messages_of, said_place, text_in};
 
 use crate::answers::CMessage;
 use back_messages::{Message, read};
@@ -51,8 +51,8 @@ impl CMessage {
 
     // What is in it by a clock.
     fn says(&self, clock: Clock) -> Place
-        ensures value { result ≡ place_in clock self.now }
-        ensures in_range { IsPlace clock result }
+        ensures value { result ≡ said_place clock self.now }
+        ensures in_range { IsMessagePlace clock result }
     {
         if self.length == 0 {
             return Place::Empty;

@@ -3,10 +3,10 @@ ghost use Rattle.std.specs.Prelude.{Bool, ◌≡◌, ◌≢◌, ◌≤◌, ℕ, 
 ghost use Rattle.h263_types.specs.declared.format.Format.{Format};
 ghost use Rattle.h263_types.specs.declared.params.Params.{Params};
 ghost use Rattle.picture_pace.specs.Fitting.{after_coded, fitting_quant, redirected, pace_at_start};
-ghost use Rattle.h263rps_c.specs.Asked.{format_in};
-ghost use Rattle.h263rps_c.specs.Ends.{HoldsSteered, packets_in};
+ghost use Rattle.h263rps_c.specs.Asked.{format_numbered};
+ghost use Rattle.h263rps_c.specs.Ends.{HoldsSteered, end_packets};
 ghost use Rattle.h263rps_c.specs.Pacing.{kind_in, pacing_refusal};
-ghost use Rattle.h263rps_c.specs.Refusals.{quant_refusal, refusal_in, status_of};
+ghost use Rattle.h263rps_c.specs.Refusals.{quant_refusal, end_refusal, status_of};
 ghost use Rattle.h263rps_c.specs.Slots.{for_sender};
 ghost use Rattle.h263rps_c.specs.Steering.{Steering};
 ghost use Rattle.h263rps_c.specs.Steering as steering;
@@ -28,8 +28,8 @@ fn kind_of(intra: u32) -> Kind
 
 // The format, where a pace may have it and this target.
 fn paced(format: u32, target: u32) -> Result<Format, EndRefusal>
-    ensures refusal { refusal_in result ≡ pacing_refusal format target }
-    ensures format { (f : Format) → result ≡ Ok f → format_in format ≡ Some f }
+    ensures refusal { end_refusal result ≡ pacing_refusal format target }
+    ensures format { (f : Format) → result ≡ Ok f → format_numbered format ≡ Some f }
 {
     let Some(chosen) = format_of(format) else {
         return Err(EndRefusal::BadParams);
@@ -54,7 +54,7 @@ pub extern "C" fn h263rps_raw_pace_start(
 ) -> u32
     ensures result { result ≡ status_of (pacing_refusal format target) }
     ensures same { result ≢ 0 → pace.new ≡ pace.old }
-    ensures value { result ≡ 0 → IfSome (format_in format) (λ f.
+    ensures value { result ≡ 0 → IfSome (format_numbered format) (λ f.
         pace.new ≡ pace_at_start f target room) }
 {
     match paced(format, target) {
@@ -103,9 +103,9 @@ pub extern "C" fn h263rps_raw_pace_coded(pace: &mut FitPace, intra: u32, quant: 
 impl End {
     // A sender codes with this quantiser from the next picture on.
     fn fix(&mut self, quant: u8) -> Result<(), EndRefusal>
-        ensures refusal { refusal_in result ≡ for_sender (quant_refusal quant) (Some self.old) }
+        ensures refusal { end_refusal result ≡ for_sender (quant_refusal quant) (Some self.old) }
         ensures same { IfErr result (λ why. self.new ≡ self.old) }
-        ensures packets { packets_in (Some self.new) ≡ packets_in (Some self.old) }
+        ensures packets { end_packets (Some self.new) ≡ end_packets (Some self.old) }
         ensures steers { (p : Params) (fits : Bool) (first : ℕ) (past : List Steering)
             → HoldsSteered p fits first past (Some self.old) → IsOk result
             → HoldsSteered p fits first (steering.Quant quant ∷ past) (Some self.new) }
@@ -126,7 +126,7 @@ pub extern "C" fn h263rps_raw_sender_quant(slot: &mut Slot, quant: u8) -> u32
         ≡ status_of (for_sender (quant_refusal quant) slot.old.handle.inside) }
     ensures same { result ≢ 0 → slot.new.handle.inside ≡ slot.old.handle.inside }
     ensures counts { slot.new.counted ≡ slot.old.counted }
-    ensures packets { packets_in slot.new.handle.inside ≡ packets_in slot.old.handle.inside }
+    ensures packets { end_packets slot.new.handle.inside ≡ end_packets slot.old.handle.inside }
     ensures steers { (p : Params) (fits : Bool) (first : ℕ) (past : List Steering)
         → HoldsSteered p fits first past slot.old.handle.inside → result ≡ 0
         → HoldsSteered p fits first (steering.Quant quant ∷ past) slot.new.handle.inside }

@@ -4,13 +4,13 @@ ghost use Rattle.h263_types.specs.declared.params.Params.{Params};
 ghost use Rattle.h263_planes.specs.Samples.{bytes_of};
 ghost use Rattle.call_model.specs.Receiving.{Packet, PlayNext, ReceiverEntry};
 ghost use Rattle.receiver_end.specs.State as receivers;
-ghost use Rattle.h263rps_c.specs.Asked.{params_of};
+ghost use Rattle.h263rps_c.specs.Asked.{params_asked};
 ghost use Rattle.h263rps_c.specs.Counting as counts;
 ghost use Rattle.h263rps_c.specs.Ends.{HoldsReceiver, ShowsPicture, TellsHeard, TellsPlayed};
 ghost use Rattle.std.specs.Borrow.{sem};
 ghost use Rattle.h263rps_c.specs.Returned.{KeepsEnd};
 ghost use Rattle.h263rps_c.specs.Numbers.{NamesReference};
-ghost use Rattle.h263rps_c.specs.Refusals.{next_refusal, play_refusal, refusal_in, status_of, refusal_number};
+ghost use Rattle.h263rps_c.specs.Refusals.{next_refusal, play_refusal, end_refusal, status_of, refusal_number};
 ghost use Rattle.h263rps_c.specs.Slots.{fault_after, for_receiver, never, start_refusal};
 ghost use Rattle.h263rps_c.specs.Stays.{Stays};
 ghost use Rattle.h263rps_c.specs.declared.refusals.EndRefusal.TheVariants as refusals;
@@ -39,14 +39,14 @@ pub extern "C" fn h263rps_raw_receiver_start(
     fault: &mut u32,
 ) -> u32
     ensures result { result ≢ refusal_number refusals.NoMemory
-        → result ≡ status_of (start_refusal slot.old.handle.inside (params_of asked.now)) }
+        → result ≡ status_of (start_refusal slot.old.handle.inside (params_asked asked.now)) }
     ensures memory { result ≡ refusal_number refusals.NoMemory
-        → start_refusal slot.old.handle.inside (params_of asked.now) ≡ None }
+        → start_refusal slot.old.handle.inside (params_asked asked.now) ≡ None }
     ensures same { result ≢ 0 → Stays slot.old slot.new }
-    ensures nothing { result ≡ 0 → slot.new.counted ≡ counts.none }
+    ensures nothing { result ≡ 0 → slot.new.counted ≡ counts.no_statistics }
     ensures fault { fault.new
-        ≡ fault_after slot.old.handle.inside (params_of asked.now) fault.old }
-    ensures stands { result ≡ 0 → IfOk (params_of asked.now)
+        ≡ fault_after slot.old.handle.inside (params_asked asked.now) fault.old }
+    ensures stands { result ≡ 0 → IfOk (params_asked asked.now)
         (λ p. HoldsReceiver p [] slot.new.handle.inside) }
 {
     if slot.is_started() {
@@ -77,7 +77,7 @@ pub extern "C" fn h263rps_raw_receiver_packet(
     ensures result { result ≡ status_of (for_receiver never slot.old.handle.inside) }
     ensures same { result ≢ 0 → Stays slot.old slot.new }
     ensures counted { result ≡ 0
-        → slot.new.counted ≡ counts.with_heard (length bytes.now) answer.new slot.old.counted }
+        → slot.new.counted ≡ counts.statistics_with_heard (length bytes.now) answer.new slot.old.counted }
     ensures unanswered { result ≢ 0 → answer.new ≡ answer.old }
     // only a packet that is taken changes anything
     ensures untaken { result ≡ 0 → 2 ≤ answer.new.kind
@@ -114,7 +114,7 @@ pub extern "C" fn h263rps_raw_receiver_play(
         ≡ status_of (for_receiver (play_refusal (length picture.old)) slot.old.handle.inside) }
     ensures same { result ≢ 0 → Stays slot.old slot.new }
     ensures counted { result ≡ 0
-        → slot.new.counted ≡ counts.with_played answer.new slot.old.counted }
+        → slot.new.counted ≡ counts.statistics_with_played answer.new slot.old.counted }
     ensures unanswered { result ≢ 0 → answer.new ≡ answer.old }
     ensures unwritten { result ≢ 0 → picture.new ≡ picture.old }
     ensures stands { (p : Params) (past : List ReceiverEntry)
@@ -153,7 +153,7 @@ pub extern "C" fn h263rps_raw_receiver_next(slot: &mut Slot, answer: &mut Answer
     ensures result { result ≡ status_of (for_receiver next_refusal slot.old.handle.inside) }
     ensures same { result ≢ 0 → Stays slot.old slot.new }
     ensures counted { result ≡ 0
-        → slot.new.counted ≡ counts.with_played answer.new slot.old.counted }
+        → slot.new.counted ≡ counts.statistics_with_played answer.new slot.old.counted }
     ensures unanswered { result ≢ 0 → answer.new ≡ answer.old }
     ensures stands { (p : Params) (past : List ReceiverEntry)
         → HoldsReceiver p past slot.old.handle.inside → result ≡ 0
@@ -184,7 +184,7 @@ pub extern "C" fn h263rps_raw_receiver_next(slot: &mut Slot, answer: &mut Answer
 
 // The samples that a receiver shows, lent. The slot keeps its end.
 fn samples_in(slot: &mut Slot) -> Result<&[u8], EndRefusal>
-    ensures refusal { refusal_in result ≡ for_receiver never slot.old.handle.inside }
+    ensures refusal { end_refusal result ≡ for_receiver never slot.old.handle.inside }
     ensures shown { IfOk result
         (λ samples. ShowsPicture slot.old.handle.inside samples.now) }
     ensures* same { sem 𝓛 (KeepsEnd slot.entry) }
@@ -198,7 +198,7 @@ fn samples_in(slot: &mut Slot) -> Result<&[u8], EndRefusal>
 
 // Writes down what is lent, if anything is.
 fn note<'a>(samples: Result<&'a [u8], EndRefusal>, lent: &mut Lent<'a>) -> u32
-    ensures result { result ≡ status_of (refusal_in samples.entry) }
+    ensures result { result ≡ status_of (end_refusal samples.entry) }
     ensures unlent { result ≢ 0 → lent.new ≡ lent.old }
     ensures lent { result ≡ 0 → samples.entry ≡ Ok lent.new.samples }
 {
@@ -230,7 +230,7 @@ pub extern "C" fn h263rps_raw_receiver_finish(alloc: Global, slot: &mut Slot) ->
     ensures result { result ≡ status_of (for_receiver never slot.old.handle.inside) }
     ensures same { result ≢ 0 → Stays slot.old slot.new }
     ensures empty { result ≡ 0 → slot.new.handle.inside ≡ None }
-    ensures nothing { result ≡ 0 → slot.new.counted ≡ counts.none }
+    ensures nothing { result ≡ 0 → slot.new.counted ≡ counts.no_statistics }
 {
     if !slot.is_started() {
         return EndRefusal::NotStarted.number();

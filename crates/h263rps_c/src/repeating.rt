@@ -4,7 +4,7 @@ ghost use Rattle.std.specs.Borrow.{sem};
 ghost use Rattle.packet_repeats.specs.Sent.{ArePlaces, found_packet};
 ghost use Rattle.packet_repeats.specs.Keeping.{KeepsSent, bytes_or_none};
 ghost use Rattle.h263rps_c.specs.Counting as counts;
-ghost use Rattle.h263rps_c.specs.Refusals.{refusal_in, refusal_number, status_of};
+ghost use Rattle.h263rps_c.specs.Refusals.{end_refusal, refusal_number, status_of};
 ghost use Rattle.h263rps_c.specs.Repeating.{FindsPacket, HoldsRepeats, is_between, may_keep, repeats_refusal};
 ghost use Rattle.h263rps_c.specs.Returned.{KeepsEnd};
 ghost use Rattle.h263rps_c.specs.Slots.{for_repeats};
@@ -74,7 +74,7 @@ impl End {
 
     /// A packet was sent.
     pub fn keep(&mut self, packet: &[u8]) -> Result<(), EndRefusal>
-        ensures refusal { refusal_in result ≡ for_repeats (Some self.old) }
+        ensures refusal { end_refusal result ≡ for_repeats (Some self.old) }
         ensures same { IfErr result (λ why. self.new ≡ self.old) }
         ensures stands { (places longest : ℕ) (sent : List (List ℕ))
             → HoldsRepeats places longest sent (Some self.old)
@@ -93,7 +93,7 @@ impl End {
 
     /// The packet with this sequence number; no bytes where it isn't kept.
     pub fn find(&self, sequence: u16) -> Result<&[u8], EndRefusal>
-        ensures refusal { refusal_in result ≡ for_repeats (Some self.now) }
+        ensures refusal { end_refusal result ≡ for_repeats (Some self.now) }
         ensures found { IfOk result (λ packet. FindsPacket sequence (Some self.now) packet.now) }
     {
         match self {
@@ -118,7 +118,7 @@ pub extern "C" fn h263rps_raw_repeats_start(
     ensures memory { result ≡ refusal_number refusals.NoMemory
         → repeats_refusal count longest slot.old.handle.inside ≡ None }
     ensures same { result ≢ 0 → Stays slot.old slot.new }
-    ensures nothing { result ≡ 0 → slot.new.counted ≡ counts.none }
+    ensures nothing { result ≡ 0 → slot.new.counted ≡ counts.no_statistics }
     ensures stands { result ≡ 0 → (places : ℕ) × ArePlaces count places
         × HoldsRepeats places longest [] slot.new.handle.inside }
 {
@@ -158,7 +158,7 @@ pub extern "C" fn h263rps_raw_repeats_keep(slot: &mut Slot, packet: &[u8]) -> u3
 
 // The packet with this sequence number, lent. The slot keeps its end.
 fn packet_in(slot: &mut Slot, sequence: u16) -> Result<&[u8], EndRefusal>
-    ensures refusal { refusal_in result ≡ for_repeats slot.old.handle.inside }
+    ensures refusal { end_refusal result ≡ for_repeats slot.old.handle.inside }
     ensures found { IfOk result
         (λ packet. FindsPacket sequence slot.old.handle.inside packet.now) }
     ensures* same { sem 𝓛 (KeepsEnd slot.entry) }
@@ -172,7 +172,7 @@ fn packet_in(slot: &mut Slot, sequence: u16) -> Result<&[u8], EndRefusal>
 
 // Writes down what is lent, if anything is.
 fn note_packet<'a>(packet: Result<&'a [u8], EndRefusal>, lent: &mut Lent<'a>) -> u32
-    ensures result { result ≡ status_of (refusal_in packet.entry) }
+    ensures result { result ≡ status_of (end_refusal packet.entry) }
     ensures unlent { result ≢ 0 → lent.new ≡ lent.old }
     ensures lent { result ≡ 0 → packet.entry ≡ Ok lent.new.samples }
 {
@@ -208,7 +208,7 @@ pub extern "C" fn h263rps_raw_repeats_finish(alloc: Global, slot: &mut Slot) -> 
     ensures result { result ≡ status_of (for_repeats slot.old.handle.inside) }
     ensures same { result ≢ 0 → Stays slot.old slot.new }
     ensures empty { result ≡ 0 → slot.new.handle.inside ≡ None }
-    ensures nothing { result ≡ 0 → slot.new.counted ≡ counts.none }
+    ensures nothing { result ≡ 0 → slot.new.counted ≡ counts.no_statistics }
 {
     if !slot.is_started() {
         return EndRefusal::NotStarted.number();

@@ -7,8 +7,8 @@ ghost use Rattle.call_encoding.specs.Frames.{Frame};
 ghost use Rattle.receiver_end.specs.State as receivers;
 ghost use Rattle.receiver_end.specs.State.{plays_alone};
 ghost use Rattle.h263rps_c.specs.Counting as counts;
-ghost use Rattle.h263rps_c.specs.Ends.{HoldsReceiver, HoldsSteered, packets_in};
-ghost use Rattle.h263rps_c.specs.Refusals.{refusal_in, reset_refusal, status_of, target_refusal};
+ghost use Rattle.h263rps_c.specs.Ends.{HoldsReceiver, HoldsSteered, end_packets};
+ghost use Rattle.h263rps_c.specs.Refusals.{end_refusal, reset_refusal, status_of, target_refusal};
 ghost use Rattle.h263rps_c.specs.Slots.{for_receiver, for_sender};
 ghost use Rattle.h263rps_c.specs.Steering.{Steering};
 ghost use Rattle.h263rps_c.specs.Stays.{Stays};
@@ -22,7 +22,7 @@ use receiver_end::Receiver;
 
 // Begins a receiver's call anew, if its next picture may have this number.
 fn restart_at(receiver: &mut Receiver, number: u32) -> Result<(), EndRefusal>
-    ensures refusal { refusal_in result ≡ reset_refusal number receiver.old }
+    ensures refusal { end_refusal result ≡ reset_refusal number receiver.old }
     ensures same { IfErr result (λ why. receiver.new ≡ receiver.old) }
     ensures params { receiver.new.params ≡ receiver.old.params }
     ensures stands { IsOk result → receivers.Stands receiver.new (plays_alone number) }
@@ -37,7 +37,7 @@ fn restart_at(receiver: &mut Receiver, number: u32) -> Result<(), EndRefusal>
 impl End {
     // A receiver begins a call anew at this number.
     fn receive_anew(&mut self, number: u32) -> Result<(), EndRefusal>
-        ensures refusal { refusal_in result ≡ for_receiver (reset_refusal number) (Some self.old) }
+        ensures refusal { end_refusal result ≡ for_receiver (reset_refusal number) (Some self.old) }
         ensures same { IfErr result (λ why. self.new ≡ self.old) }
         ensures stands { (p : Params) (past : List ReceiverEntry)
             → HoldsReceiver p past (Some self.old) → IsOk result
@@ -53,9 +53,9 @@ impl End {
 
     // A sender begins a call anew with this target.
     fn send_anew(&mut self, target: u32) -> Result<(), EndRefusal>
-        ensures refusal { refusal_in result ≡ for_sender (target_refusal target) (Some self.old) }
+        ensures refusal { end_refusal result ≡ for_sender (target_refusal target) (Some self.old) }
         ensures same { IfErr result (λ why. self.new ≡ self.old) }
-        ensures packets { IsOk result → packets_in (Some self.new) ≡ [] }
+        ensures packets { IsOk result → end_packets (Some self.new) ≡ [] }
         ensures steers { (p : Params) (fits : Bool) (first : ℕ) (past : List Steering)
             → HoldsSteered p fits first past (Some self.old) → IsOk result
             → HoldsSteered p fits target [] (Some self.new) }
@@ -76,7 +76,7 @@ pub extern "C" fn h263rps_raw_receiver_reset(slot: &mut Slot, number: u32) -> u3
     ensures result { result
         ≡ status_of (for_receiver (reset_refusal number) slot.old.handle.inside) }
     ensures same { result ≢ 0 → Stays slot.old slot.new }
-    ensures nothing { result ≡ 0 → slot.new.counted ≡ counts.none }
+    ensures nothing { result ≡ 0 → slot.new.counted ≡ counts.no_statistics }
     ensures stands { (p : Params) (past : List ReceiverEntry)
         → HoldsReceiver p past slot.old.handle.inside → result ≡ 0
         → HoldsReceiver p (plays_alone number) slot.new.handle.inside }
@@ -100,8 +100,8 @@ pub extern "C" fn h263rps_raw_sender_reset(slot: &mut Slot, target: u32) -> u32
     ensures result { result
         ≡ status_of (for_sender (target_refusal target) slot.old.handle.inside) }
     ensures same { result ≢ 0 → Stays slot.old slot.new }
-    ensures nothing { result ≡ 0 → slot.new.counted ≡ counts.none }
-    ensures packets { result ≡ 0 → packets_in slot.new.handle.inside ≡ [] }
+    ensures nothing { result ≡ 0 → slot.new.counted ≡ counts.no_statistics }
+    ensures packets { result ≡ 0 → end_packets slot.new.handle.inside ≡ [] }
     ensures steers { (p : Params) (fits : Bool) (first : ℕ) (past : List Steering)
         → HoldsSteered p fits first past slot.old.handle.inside → result ≡ 0
         → HoldsSteered p fits target [] slot.new.handle.inside }

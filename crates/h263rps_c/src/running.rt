@@ -2,11 +2,11 @@
 ghost use Rattle.std.specs.Prelude.{Bool, ◌≡◌, ◌≢◌, ℕ, List, ◌∷◌, length};
 ghost use Rattle.h263_types.specs.declared.params.Params.{Params};
 ghost use Rattle.sender_end.specs.Known.{known_in};
-ghost use Rattle.h263rps_c.specs.Ends.{HoldsSteered, packets_in};
-ghost use Rattle.h263rps_c.specs.Pace.{target_in};
+ghost use Rattle.h263rps_c.specs.Ends.{HoldsSteered, end_packets};
+ghost use Rattle.h263rps_c.specs.Pace.{target_if_any};
 ghost use Rattle.h263rps_c.specs.Refusals.{status_of, target_refusal};
 ghost use Rattle.h263rps_c.specs.Slots.{for_sender, never};
-ghost use Rattle.h263rps_c.specs.Steering.{Steering, run_after};
+ghost use Rattle.h263rps_c.specs.Steering.{Steering, steered_run};
 ghost use Rattle.h263rps_c.specs.Steering as steering;
 ghost use Rattle.h263rps_c.specs.Stays.{Stays};
 
@@ -21,10 +21,10 @@ pub extern "C" fn h263rps_raw_sender_target(slot: &mut Slot, target: u32) -> u32
         ≡ status_of (for_sender (target_refusal target) slot.old.handle.inside) }
     ensures same { result ≢ 0 → slot.new.handle.inside ≡ slot.old.handle.inside }
     ensures counts { slot.new.counted ≡ slot.old.counted }
-    ensures packets { packets_in slot.new.handle.inside ≡ packets_in slot.old.handle.inside }
+    ensures packets { end_packets slot.new.handle.inside ≡ end_packets slot.old.handle.inside }
     ensures steers { (p : Params) (fits : Bool) (first : ℕ) (past : List Steering)
         → HoldsSteered p fits first past slot.old.handle.inside → result ≡ 0
-        → HoldsSteered p fits first (steering.Target (target_in target) ∷ past)
+        → HoldsSteered p fits first (steering.Target (target_if_any target) ∷ past)
         slot.new.handle.inside }
 {
     if !slot.is_started() {
@@ -43,7 +43,7 @@ pub extern "C" fn h263rps_raw_sender_forget(slot: &mut Slot) -> u32
     ensures result { result ≡ status_of (for_sender never slot.old.handle.inside) }
     ensures same { result ≢ 0 → slot.new.handle.inside ≡ slot.old.handle.inside }
     ensures counts { slot.new.counted ≡ slot.old.counted }
-    ensures packets { packets_in slot.new.handle.inside ≡ packets_in slot.old.handle.inside }
+    ensures packets { end_packets slot.new.handle.inside ≡ end_packets slot.old.handle.inside }
     ensures steers { (p : Params) (fits : Bool) (first : ℕ) (past : List Steering)
         → HoldsSteered p fits first past slot.old.handle.inside → result ≡ 0
         → HoldsSteered p fits first (steering.Forget ∷ past) slot.new.handle.inside }
@@ -65,7 +65,7 @@ pub extern "C" fn h263rps_raw_sender_sent(slot: &mut Slot, count: &mut u32) -> u
     ensures uncounted { result ≢ 0 → count.new ≡ count.old }
     ensures steers { (p : Params) (fits : Bool) (first : ℕ) (past : List Steering)
         → HoldsSteered p fits first past slot.old.handle.inside → result ≡ 0
-        → count.new ≡ length (run_after p fits (target_in first) past).run.coded }
+        → count.new ≡ length (steered_run p fits (target_if_any first) past).run.coded }
 {
     if !slot.is_started() {
         return EndRefusal::NotStarted.number();
@@ -88,7 +88,7 @@ pub extern "C" fn h263rps_raw_sender_known(slot: &mut Slot, count: &mut u32) -> 
     ensures uncounted { result ≢ 0 → count.new ≡ count.old }
     ensures steers { (p : Params) (fits : Bool) (first : ℕ) (past : List Steering)
         → HoldsSteered p fits first past slot.old.handle.inside → result ≡ 0
-        → count.new ≡ known_in p (run_after p fits (target_in first) past) }
+        → count.new ≡ known_in p (steered_run p fits (target_if_any first) past) }
 {
     if !slot.is_started() {
         return EndRefusal::NotStarted.number();

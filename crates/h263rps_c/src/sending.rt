@@ -10,13 +10,13 @@ ghost use Rattle.call_encoding.specs.Messages.{read_message};
 ghost use Rattle.fitted_sender.specs.Stands.{IsAim};
 ghost use Rattle.sender_end.specs.Known.{known_in};
 ghost use Rattle.sender_end.specs.Stands as senders;
-ghost use Rattle.h263rps_c.specs.Sending.{frame_of};
-ghost use Rattle.h263rps_c.specs.Steering.{Steering, Steers, aimed_anew, first_in, next_after, run_after};
+ghost use Rattle.h263rps_c.specs.Sending.{frame_given};
+ghost use Rattle.h263rps_c.specs.Steering.{Steering, Steers, aimed_anew, first_in, steered_next, steered_run};
 ghost use Rattle.h263rps_c.specs.Steering as steering;
 ghost use Rattle.h263rps_c.specs.declared.refusals.EndRefusal.TheVariants as refusals;
 ghost use Rattle.h263rps_c.specs.Messages.{messages_of};
-ghost use Rattle.h263rps_c.specs.Pace.{target_in};
-ghost use Rattle.h263rps_c.specs.Refusals.{refusal_in, capture_refusal, packet_refusal, quant_refusal, target_refusal};
+ghost use Rattle.h263rps_c.specs.Pace.{target_if_any};
+ghost use Rattle.h263rps_c.specs.Refusals.{end_refusal, capture_refusal, packet_refusal, quant_refusal, target_refusal};
 
 use crate::MOST_PICTURES;
 use crate::answers::CMessage;
@@ -47,9 +47,9 @@ impl Model for Sending {
     ghost use Rattle.std.specs.Prelude.{◌≡◌, length};
     ghost use Rattle.h263_types.specs.Params.{IsParams};
     ghost use Rattle.fitted_sender.specs.Stands.{IsAim};
-    ghost use Rattle.h263rps_c.specs.Sending.{Sends};
+    ghost use Rattle.h263rps_c.specs.Sending.{AimedSender};
 
-    ghost Value = { Sends };
+    ghost Value = { AimedSender };
 
     ghost view = { λ s. record { sender = s.sender; aim = s.aim; fits = s.fits } };
 
@@ -59,7 +59,7 @@ impl Model for Sending {
 
 /// The target that is followed, if there is one.
 pub fn followed(target: u32) -> Option<u32>
-    ensures { result ≡ target_in target }
+    ensures { result ≡ target_if_any target }
 {
     if target == 0 { None } else { Some(target) }
 }
@@ -68,7 +68,7 @@ pub fn followed(target: u32) -> Option<u32>
 fn first_aim(params: &Params, target: u32, fits: bool) -> Aim
     requires params { IsParams params.now }
     requires target { target ≤ 999999 }
-    ensures value { result ≡ first_in params.now fits (target_in target) }
+    ensures value { result ≡ first_in params.now fits (target_if_any target) }
     ensures ready { IsAim result }
 {
     if fits {
@@ -82,7 +82,7 @@ fn first_aim(params: &Params, target: u32, fits: bool) -> Aim
 fn aim_anew(aim: &Aim, params: &Params, target: u32, fits: bool) -> Aim
     requires params { IsParams params.now }
     requires target { target ≤ 999999 }
-    ensures value { result ≡ aimed_anew params.now fits (target_in target) aim.now }
+    ensures value { result ≡ aimed_anew params.now fits (target_if_any target) aim.now }
     ensures ready { IsAim result }
 {
     if fits {
@@ -125,18 +125,18 @@ impl Sending {
 
     /// Captures the next picture, with these messages in its header.
     pub fn code(&mut self, bytes: &[u8], back: &[CMessage]) -> Result<Coded, EndRefusal>
-        ensures refusal { refusal_in result ≡ capture_refusal bytes.now back.now self.old.sender }
+        ensures refusal { end_refusal result ≡ capture_refusal bytes.now back.now self.old.sender }
         ensures same { IfErr result (λ why. self.new ≡ self.old) }
         ensures count { IfOk result (λ coded. coded.packets ≡ length self.new.sender.packets) }
         ensures steers { (p : Params) (fits : Bool) (first : ℕ) (past : List Steering)
             (messages : List Message) → Steers p fits first past self.old
             → messages_of p.clock back.now ≡ Some messages → IsOk result
-            → Steers p fits first (steering.Capture (frame_of p bytes.now messages) ∷ past) self.new }
+            → Steers p fits first (steering.Capture (frame_given p bytes.now messages) ∷ past) self.new }
         ensures makes { (p : Params) (fits : Bool) (first : ℕ) (past : List Steering)
             (messages : List Message) → Steers p fits first past self.old
             → messages_of p.clock back.now ≡ Some messages → IfOk result (λ coded.
-            senders.Describes (length (run_after p fits (target_in first) past).run.coded)
-            (next_after p fits (target_in first) (frame_of p bytes.now messages) past) coded) }
+            senders.Describes (length (steered_run p fits (target_if_any first) past).run.coded)
+            (steered_next p fits (target_if_any first) (frame_given p bytes.now messages) past) coded) }
     {
         if self.sender.sent() >= MOST_PICTURES {
             return Err(EndRefusal::Ended);
@@ -158,7 +158,7 @@ impl Sending {
 
     /// Copies packet i of the last picture to the start of a room, and says how many bytes it has.
     pub fn packet(&self, i: u32, room: &mut [u8]) -> Result<usize, EndRefusal>
-        ensures refusal { refusal_in result ≡ packet_refusal i (length room.old) self.now.sender }
+        ensures refusal { end_refusal result ≡ packet_refusal i (length room.old) self.now.sender }
         ensures unwritten { IfErr result (λ why. room.new ≡ room.old) }
         ensures count { IfOk result (λ count.
             count ≡ length (slice_index_or self.now.sender.packets i [])) }
@@ -169,7 +169,7 @@ impl Sending {
         ensures steers { (p : Params) (fits : Bool) (first : ℕ) (past : List Steering)
             → Steers p fits first past self.now → IsOk result
             → slice_index_or self.now.sender.packets i []
-            ≡ slice_index_or (senders.packets_after p (run_after p fits (target_in first) past)) i [] }
+            ≡ slice_index_or (senders.packets_after p (steered_run p fits (target_if_any first) past)) i [] }
     {
         if i >= self.packets {
             return Err(EndRefusal::NoPacket);
@@ -192,7 +192,7 @@ impl Sending {
         ensures replies { (p : Params) (fits : Bool) (first : ℕ) (past : List Steering)
             → Steers p fits first past self.old
             → senders.reply_of result ≡ feedback_answer (rules_of p)
-            (length (run_after p fits (target_in first) past).run.coded)
+            (length (steered_run p fits (target_if_any first) past).run.coded)
             (read_message p.clock bytes.now) }
     {
         self.sender.feedback(bytes)
@@ -200,12 +200,12 @@ impl Sending {
 
     /// Follows this target from the next picture on, or none where it is 0.
     pub fn follow(&mut self, target: u32) -> Result<(), EndRefusal>
-        ensures refusal { refusal_in result ≡ target_refusal target self.old.sender }
+        ensures refusal { end_refusal result ≡ target_refusal target self.old.sender }
         ensures same { IfErr result (λ why. self.new ≡ self.old) }
         ensures packets { self.new.sender.packets ≡ self.old.sender.packets }
         ensures steers { (p : Params) (fits : Bool) (first : ℕ) (past : List Steering)
             → Steers p fits first past self.old → IsOk result
-            → Steers p fits first (steering.Target (target_in target) ∷ past) self.new }
+            → Steers p fits first (steering.Target (target_if_any target) ∷ past) self.new }
     {
         if target > MOST_BYTES {
             return Err(EndRefusal::BadParams);
@@ -216,7 +216,7 @@ impl Sending {
 
     /// Codes with this quantiser from the next picture on, and follows no target.
     pub fn fix(&mut self, quant: u8) -> Result<(), EndRefusal>
-        ensures refusal { refusal_in result ≡ quant_refusal quant self.old.sender }
+        ensures refusal { end_refusal result ≡ quant_refusal quant self.old.sender }
         ensures same { IfErr result (λ why. self.new ≡ self.old) }
         ensures packets { self.new.sender.packets ≡ self.old.sender.packets }
         ensures steers { (p : Params) (fits : Bool) (first : ℕ) (past : List Steering)
@@ -245,7 +245,7 @@ impl Sending {
 
     /// Begins a call anew in the memory that it has, and follows this target, or none where it is 0.
     pub fn restart(&mut self, target: u32) -> Result<(), EndRefusal>
-        ensures refusal { refusal_in result ≡ target_refusal target self.old.sender }
+        ensures refusal { end_refusal result ≡ target_refusal target self.old.sender }
         ensures same { IfErr result (λ why. self.new ≡ self.old) }
         ensures packets { IsOk result → self.new.sender.packets ≡ [] }
         ensures steers { (p : Params) → self.old.sender.params ≡ p → IsOk result
@@ -266,7 +266,7 @@ impl Sending {
         ensures value { result ≡ self.now.sender.sent }
         ensures steers { (p : Params) (fits : Bool) (first : ℕ) (past : List Steering)
             → Steers p fits first past self.now
-            → result ≡ length (run_after p fits (target_in first) past).run.coded }
+            → result ≡ length (steered_run p fits (target_if_any first) past).run.coded }
     {
         self.sender.sent()
     }
@@ -275,7 +275,7 @@ impl Sending {
     pub fn known(&self) -> u32
         ensures { (p : Params) (fits : Bool) (first : ℕ) (past : List Steering)
             → Steers p fits first past self.now
-            → result ≡ known_in p (run_after p fits (target_in first) past) }
+            → result ≡ known_in p (steered_run p fits (target_if_any first) past) }
     {
         self.sender.known()
     }

@@ -3,15 +3,15 @@ ghost use Rattle.std.specs.Prelude.{◌≡◌, ◌≢◌, List, [], ◌∷◌, N
 ghost use Rattle.session_intake.specs.declared.settings.Settings.{Settings};
 ghost use Rattle.session_runs.specs.Following.{due_next};
 ghost use Rattle.session_runs.specs.Kept.{config_in};
-ghost use Rattle.call_session.specs.Sessions.{Datagram, DatagramOf, Entry, Turn, at, outcome_of};
-ghost use Rattle.call_session.specs.Sessions.{outcome_of_one, played_run, told_of, told_of_one};
+ghost use Rattle.call_session.specs.Sessions.{Datagram, DatagramOf, SessionEntry, Turn, at, outcome_of};
+ghost use Rattle.call_session.specs.Sessions.{outcome_of_one, played_run, told_of_datagram, told_of_one};
 ghost use Rattle.std.specs.Borrow.{sem};
-ghost use Rattle.h263rps_c.specs.Asked.{params_of};
-ghost use Rattle.h263rps_c.specs.Refusals.{refusal_in, refusal_number, status_of};
+ghost use Rattle.h263rps_c.specs.Asked.{params_asked};
+ghost use Rattle.h263rps_c.specs.Refusals.{end_refusal, refusal_number, status_of};
 ghost use Rattle.h263rps_c.specs.SessionNumbers.{counts_numbers, run_in, time_or_never};
 ghost use Rattle.h263rps_c.specs.SessionReturned.{KeepsSession};
 ghost use Rattle.h263rps_c.specs.Sessions.{HoldsSession, ShowsScreen, TellsOutcome, TellsTurn};
-ghost use Rattle.h263rps_c.specs.Sessions.{session_refusal, setting_after, source_named, source_of};
+ghost use Rattle.h263rps_c.specs.Sessions.{session_refusal, setting_after, source_named, played_source};
 ghost use Rattle.h263rps_c.specs.Sessions.{state_after, stream_refusal, unless_started};
 ghost use Rattle.h263rps_c.specs.Timing.{settings_in};
 ghost use Rattle.h263rps_c.specs.declared.refusals.EndRefusal.TheVariants as refusals;
@@ -35,13 +35,13 @@ pub extern "C" fn h263rps_raw_session_start(
     fault: &mut u32,
 ) -> u32
     ensures result { result ≢ refusal_number refusals.NoMemory → result ≡ status_of
-        (session_refusal slot.old.handle.inside (settings_in (params_of asked.now) timing.now)) }
+        (session_refusal slot.old.handle.inside (settings_in (params_asked asked.now) timing.now)) }
     ensures memory { result ≡ refusal_number refusals.NoMemory → session_refusal
-        slot.old.handle.inside (settings_in (params_of asked.now) timing.now) ≡ None }
+        slot.old.handle.inside (settings_in (params_asked asked.now) timing.now) ≡ None }
     ensures same { result ≢ 0 → slot.new.handle.inside ≡ slot.old.handle.inside }
     ensures fault { fault.new ≡ setting_after slot.old.handle.inside
-        (settings_in (params_of asked.now) timing.now) fault.old }
-    ensures stands { result ≡ 0 → IfOk (settings_in (params_of asked.now) timing.now)
+        (settings_in (params_asked asked.now) timing.now) fault.old }
+    ensures stands { result ≡ 0 → IfOk (settings_in (params_asked asked.now) timing.now)
         (λ s. HoldsSession s [] slot.new.handle.inside) }
 {
     if slot.is_started() {
@@ -73,14 +73,14 @@ pub extern "C" fn h263rps_raw_session_arrival(
     ensures result { result ≡ status_of (unless_started slot.old.handle.inside) }
     ensures same { result ≢ 0 → slot.new.handle.inside ≡ slot.old.handle.inside }
     ensures unanswered { result ≢ 0 → arrived.new ≡ arrived.old }
-    ensures stands { (s : Settings) (past : List Entry)
+    ensures stands { (s : Settings) (past : List SessionEntry)
         → HoldsSession s past slot.old.handle.inside
         → HoldsSession s (Datagram bytes.now now ∷ past) slot.new.handle.inside }
-    ensures answer { (s : Settings) (past : List Entry)
+    ensures answer { (s : Settings) (past : List SessionEntry)
         → HoldsSession s past slot.old.handle.inside
         → TellsOutcome s.params.clock arrived.new
         (outcome_of (config_in s) bytes.now now (state_after s past))
-        (told_of (config_in s) bytes.now now (state_after s past)) }
+        (told_of_datagram (config_in s) bytes.now now (state_after s past)) }
 {
     if !slot.is_started() {
         return EndRefusal::NotStarted.number();
@@ -101,10 +101,10 @@ pub extern "C" fn h263rps_raw_session_arrival_of(
     ensures result { result ≡ status_of (unless_started slot.old.handle.inside) }
     ensures same { result ≢ 0 → slot.new.handle.inside ≡ slot.old.handle.inside }
     ensures unanswered { result ≢ 0 → arrived.new ≡ arrived.old }
-    ensures stands { (s : Settings) (past : List Entry)
+    ensures stands { (s : Settings) (past : List SessionEntry)
         → HoldsSession s past slot.old.handle.inside
         → HoldsSession s (DatagramOf source bytes.now now ∷ past) slot.new.handle.inside }
-    ensures answer { (s : Settings) (past : List Entry)
+    ensures answer { (s : Settings) (past : List SessionEntry)
         → HoldsSession s past slot.old.handle.inside
         → TellsOutcome s.params.clock arrived.new
         (outcome_of_one (config_in s) source bytes.now now (state_after s past))
@@ -124,7 +124,7 @@ pub extern "C" fn h263rps_raw_session_due(slot: &mut SessionSlot, due: &mut u64)
     ensures result { result ≡ status_of (unless_started slot.old.handle.inside) }
     ensures same { slot.new.handle.inside ≡ slot.old.handle.inside }
     ensures untold { result ≢ 0 → due.new ≡ due.old }
-    ensures told { (s : Settings) (past : List Entry)
+    ensures told { (s : Settings) (past : List SessionEntry)
         → HoldsSession s past slot.old.handle.inside
         → due.new ≡ time_or_never (due_next (config_in s) (state_after s past).follows) }
 {
@@ -145,14 +145,14 @@ pub extern "C" fn h263rps_raw_session_play(
     ensures result { result ≡ status_of (unless_started slot.old.handle.inside) }
     ensures same { result ≢ 0 → slot.new.handle.inside ≡ slot.old.handle.inside }
     ensures unanswered { result ≢ 0 → turn.new ≡ turn.old }
-    ensures stands { (s : Settings) (past : List Entry)
+    ensures stands { (s : Settings) (past : List SessionEntry)
         → HoldsSession s past slot.old.handle.inside
         → HoldsSession s (Turn now ∷ past) slot.new.handle.inside }
-    ensures answer { (s : Settings) (past : List Entry)
+    ensures answer { (s : Settings) (past : List SessionEntry)
         → HoldsSession s past slot.old.handle.inside
         → let c = config_in s in let st = at now (state_after s past) in
         TellsTurn c st turn.new (played_run c st)
-        (source_of s (Turn now ∷ past) (played_run c st)) }
+        (played_source s (Turn now ∷ past) (played_run c st)) }
 {
     if !slot.is_started() {
         return EndRefusal::NotStarted.number();
@@ -163,7 +163,7 @@ pub extern "C" fn h263rps_raw_session_play(
 
 // The samples on the screen of a session, lent. The slot keeps its session.
 fn screen_in(slot: &mut SessionSlot) -> Result<&[u8], EndRefusal>
-    ensures refusal { refusal_in result ≡ unless_started slot.old.handle.inside }
+    ensures refusal { end_refusal result ≡ unless_started slot.old.handle.inside }
     ensures shown { IfOk result (λ samples. ShowsScreen slot.old.handle.inside samples.now) }
     ensures* same { sem 𝓛 (KeepsSession slot.entry) }
 {
@@ -176,7 +176,7 @@ fn screen_in(slot: &mut SessionSlot) -> Result<&[u8], EndRefusal>
 
 // Writes down what is lent, if anything is.
 fn note_screen<'a>(samples: Result<&'a [u8], EndRefusal>, lent: &mut Lent<'a>) -> u32
-    ensures result { result ≡ status_of (refusal_in samples.entry) }
+    ensures result { result ≡ status_of (end_refusal samples.entry) }
     ensures unlent { result ≢ 0 → lent.new ≡ lent.old }
     ensures lent { result ≡ 0 → samples.entry ≡ Ok lent.new.samples }
 {
@@ -208,7 +208,7 @@ pub extern "C" fn h263rps_raw_session_shown<'a>(
 fn source_by(slot: &mut SessionSlot, number: u32) -> Option<u32>
     requires { IsSome slot.old.handle.inside }
     ensures same { slot.new.handle.inside ≡ slot.old.handle.inside }
-    ensures value { (s : Settings) (past : List Entry)
+    ensures value { (s : Settings) (past : List SessionEntry)
         → HoldsSession s past slot.old.handle.inside
         → result ≡ source_named s past (run_in number) }
 {
@@ -227,12 +227,12 @@ pub extern "C" fn h263rps_raw_session_source(
 ) -> u32
     ensures empty { slot.old.handle.inside ≡ None
         → result ≡ refusal_number refusals.NotStarted }
-    ensures result { (s : Settings) (past : List Entry)
+    ensures result { (s : Settings) (past : List SessionEntry)
         → HoldsSession s past slot.old.handle.inside
         → result ≡ status_of (stream_refusal (source_named s past (run_in run))) }
     ensures same { slot.new.handle.inside ≡ slot.old.handle.inside }
     ensures untold { result ≢ 0 → source.new ≡ source.old }
-    ensures told { (s : Settings) (past : List Entry)
+    ensures told { (s : Settings) (past : List SessionEntry)
         → HoldsSession s past slot.old.handle.inside → result ≡ 0
         → source_named s past (run_in run) ≡ Some source.new }
 {
@@ -257,7 +257,7 @@ pub extern "C" fn h263rps_raw_session_statistics(
     ensures result { result ≡ status_of (unless_started slot.old.handle.inside) }
     ensures same { slot.new.handle.inside ≡ slot.old.handle.inside }
     ensures untold { result ≢ 0 → counts.new ≡ counts.old }
-    ensures told { (s : Settings) (past : List Entry)
+    ensures told { (s : Settings) (past : List SessionEntry)
         → HoldsSession s past slot.old.handle.inside
         → counts.new ≡ counts_numbers (state_after s past).counts }
 {

@@ -111,7 +111,7 @@ fn verdict_number(answer: &RunAnswer) -> u32
 }
 
 fn ahead_of(answer: &RunAnswer) -> u32
-    ensures { result ≡ numbers.ahead_of answer.now }
+    ensures { result ≡ numbers.number_ahead answer.now }
 {
     match answer {
         RunAnswer::NoPlace => 0,
@@ -122,7 +122,7 @@ fn ahead_of(answer: &RunAnswer) -> u32
 
 // The receiver's answer, if the packet is heard.
 fn heard_in(answer: &RunAnswer) -> Answer
-    ensures { result ≡ numbers.heard_in answer.now }
+    ensures { result ≡ numbers.answer_arrived answer.now }
 {
     match answer {
         RunAnswer::NoPlace => Answer::plain(0),

@@ -2,7 +2,7 @@
 ghost use Rattle.std.specs.Prelude.{◌≡◌, ◌≢◌, List, ◌∷◌};
 ghost use Rattle.session_intake.specs.declared.settings.Settings.{Settings};
 ghost use Rattle.session_runs.specs.Kept.{config_in};
-ghost use Rattle.call_session.specs.Sessions.{Anew, Asked, Ended, Entry, at, missing_at};
+ghost use Rattle.call_session.specs.Sessions.{Anew, Asked, Ended, SessionEntry, at, missing_at};
 ghost use Rattle.h263rps_c.specs.Refusals.{status_of};
 ghost use Rattle.h263rps_c.specs.SessionNumbers.{nack_numbers};
 ghost use Rattle.h263rps_c.specs.Sessions.{HoldsSession, state_after, unless_started};
@@ -22,10 +22,10 @@ pub extern "C" fn h263rps_raw_session_missing(
     ensures result { result ≡ status_of (unless_started slot.old.handle.inside) }
     ensures same { result ≢ 0 → slot.new.handle.inside ≡ slot.old.handle.inside }
     ensures unasked { result ≢ 0 → nack.new ≡ nack.old }
-    ensures stands { (s : Settings) (past : List Entry)
+    ensures stands { (s : Settings) (past : List SessionEntry)
         → HoldsSession s past slot.old.handle.inside
         → HoldsSession s (Asked round_trip now ∷ past) slot.new.handle.inside }
-    ensures answer { (s : Settings) (past : List Entry)
+    ensures answer { (s : Settings) (past : List SessionEntry)
         → HoldsSession s past slot.old.handle.inside
         → nack.new ≡ nack_numbers
         (missing_at (config_in s) round_trip (at now (state_after s past))) }
@@ -42,7 +42,7 @@ pub extern "C" fn h263rps_raw_session_missing(
 pub extern "C" fn h263rps_raw_session_bye(slot: &mut SessionSlot, source: u32, now: u64) -> u32
     ensures result { result ≡ status_of (unless_started slot.old.handle.inside) }
     ensures same { result ≢ 0 → slot.new.handle.inside ≡ slot.old.handle.inside }
-    ensures stands { (s : Settings) (past : List Entry)
+    ensures stands { (s : Settings) (past : List SessionEntry)
         → HoldsSession s past slot.old.handle.inside
         → HoldsSession s (Ended source now ∷ past) slot.new.handle.inside }
 {
@@ -58,7 +58,7 @@ pub extern "C" fn h263rps_raw_session_bye(slot: &mut SessionSlot, source: u32, n
 pub extern "C" fn h263rps_raw_session_reset(slot: &mut SessionSlot, now: u64) -> u32
     ensures result { result ≡ status_of (unless_started slot.old.handle.inside) }
     ensures same { result ≢ 0 → slot.new.handle.inside ≡ slot.old.handle.inside }
-    ensures stands { (s : Settings) (past : List Entry)
+    ensures stands { (s : Settings) (past : List SessionEntry)
         → HoldsSession s past slot.old.handle.inside
         → HoldsSession s (Anew now ∷ past) slot.new.handle.inside }
 {

@@ -4,11 +4,11 @@ ghost use Rattle.back_messages.specs.declared.message.Message.{Message};
 ghost use Rattle.back_messages.specs.Text.{IsMessage};
 ghost use Rattle.h263_types.specs.declared.clock.Clock.TheVariants.{Custom};
 ghost use Rattle.h263_types.specs.declared.format.Format.{Format};
-ghost use Rattle.packet_collector.specs.Packet.{Slice, packet_at};
+ghost use Rattle.packet_collector.specs.Packet.{PacketSlice, packet_at};
 ghost use Rattle.packet_start.specs.Start.{start_in};
 ghost use Rattle.picture_header.specs.declared.header.Header.{Header};
 ghost use Rattle.picture_header.specs.Ranges.{IsHeader, messages_in};
-ghost use Rattle.h263rps_c.specs.Asked.{clock_in, format_in};
+ghost use Rattle.h263rps_c.specs.Asked.{clock_numbered, format_numbered};
 ghost use Rattle.h263rps_c.specs.Refusals.{status_of};
 ghost use Rattle.h263rps_c.specs.Start.{IsStart, IsSaidOf, Refers, start_refusal};
 
@@ -40,7 +40,7 @@ pub struct Start {
 }
 
 fn format_number(format: Format) -> u32
-    ensures { format_in result ≡ Some format }
+    ensures { format_numbered result ≡ Some format }
 {
     match format {
         Format::SubQcif => 1,
@@ -50,7 +50,7 @@ fn format_number(format: Format) -> u32
 }
 
 fn clock_number(clock: Clock) -> u32
-    ensures { clock_in result ≡ Some clock }
+    ensures { clock_numbered result ≡ Some clock }
 {
     match clock {
         Clock::Standard => 0,
@@ -118,7 +118,7 @@ impl Start {
 
 // A packet that is read whole has the start of its slice.
 fn whole_packets_start()
-    ensures { (format : Format) (bytes : List ℕ) (s : Slice)
+    ensures { (format : Format) (bytes : List ℕ) (s : PacketSlice)
         → packet_at format bytes ≡ Ok s → start_in bytes ≡ Some s.header }
 {
     packet_start_laws::starts_as_read();
@@ -134,7 +134,7 @@ pub extern "C" fn h263rps_raw_packet_start(bytes: &[u8], start: &mut Start) -> u
     ensures unwritten { result ≢ 0 → start.new ≡ start.old }
     ensures start { (h : Header) → start_in bytes.now ≡ Some h → IsStart start.new h }
     // A packet that is read whole has a start, and its slice is of the picture that it tells of.
-    ensures whole { (format : Format) (s : Slice)
+    ensures whole { (format : Format) (s : PacketSlice)
         → packet_at format bytes.now ≡ Ok s → start_in bytes.now ≡ Some s.header }
 {
     whole_packets_start();

@@ -2,7 +2,7 @@
 ghost use Rattle.std.specs.Prelude.{◌≡◌, IfOk};
 ghost use Rattle.h263_types.specs.Params.{IsParams};
 ghost use Rattle.session_intake.specs.Settings.{IsSettings, settings_of};
-ghost use Rattle.h263rps_c.specs.Asked.{params_of};
+ghost use Rattle.h263rps_c.specs.Asked.{params_asked};
 ghost use Rattle.h263rps_c.specs.Timing as timings;
 
 use crate::asked::{Asked, param_number};
@@ -47,7 +47,7 @@ impl Timing {
 
     /// The settings of a session, or the number of the first that is out of its range.
     pub fn settings(&self, asked: &Asked) -> Result<Settings, u32>
-        ensures value { result ≡ timings.settings_in (params_of asked.now) self.now }
+        ensures value { result ≡ timings.settings_in (params_asked asked.now) self.now }
         ensures in_range { IfOk result IsSettings }
     {
         match asked.params() {

@@ -12,13 +12,13 @@ use Rattle.command_words.specs.declared.command.Command.{Command}
 use Rattle.command_words.specs.declared.command.Command.TheVariants.{Call}
 use Rattle.command_words.specs.declared.simple.WordStop.{WordStop}
 use Rattle.command_words.specs.declared.simple.WordStop.TheVariants as stops
-use Rattle.command_words.specs.Simple.{Text}
+use Rattle.h263_types.specs.Texts.{Text}
 use Rattle.command_words.specs.Asked.{Asked, asked}
 use Rattle.desk_program.specs.Ends.{HasCause}
 use Rattle.desk_program.specs.Attached.{AreAttached}
 use Rattle.desk_program.specs.Lines.{Finishes}
 use Rattle.desk_program.specs.Promises.{IsNotUsage, IsSettled}
-use Rattle.h263rps_run.specs.Output.{word_stop, command_of, roles_of, source_of, run_of, output_of, order_from, source_from}
+use Rattle.h263rps_run.specs.Output.{word_stop, command_of, roles_of, source_of_command, run_of_command, output_of, order_from, source_from}
 use Rattle.h263rps_run.specs.Promises.{IsRefusedRightly, IsRunOf, IsRun}
 use Rattle.h263rps_run.proofs.Promised.{some_since, nothing_done, report_unopened, words_unread, usage_told, since_attached}
 
@@ -26,16 +26,16 @@ use Rattle.h263rps_run.proofs.Promised.{some_since, nothing_done, report_unopene
 
 -- there is no second video
 pub one_video : (c : Command)
-    → ((inputs : Role → List ℕ) (fault : Y4mFault) → (run_of c inputs).last.status ≡ VideoRefused fault
+    → ((inputs : Role → List ℕ) (fault : Y4mFault) → (run_of_command c inputs).last.status ≡ VideoRefused fault
     → video_fault (inputs Video) ≡ Some fault)
-    → ((inputs : Role → List ℕ) (fault : Y4mFault) → (run_of c inputs).last.status ≡ Video2Refused fault → ⊥)
+    → ((inputs : Role → List ℕ) (fault : Y4mFault) → (run_of_command c inputs).last.status ≡ Video2Refused fault → ⊥)
     → IsRefusedRightly c
 one_video c first none = record { first = first; second = λ inputs fault ends. absurd (none inputs fault ends) }
 
 -- there is no video
 pub no_video : (c : Command)
-    → ((inputs : Role → List ℕ) (fault : Y4mFault) → (run_of c inputs).last.status ≡ VideoRefused fault → ⊥)
-    → ((inputs : Role → List ℕ) (fault : Y4mFault) → (run_of c inputs).last.status ≡ Video2Refused fault → ⊥)
+    → ((inputs : Role → List ℕ) (fault : Y4mFault) → (run_of_command c inputs).last.status ≡ VideoRefused fault → ⊥)
+    → ((inputs : Role → List ℕ) (fault : Y4mFault) → (run_of_command c inputs).last.status ≡ Video2Refused fault → ⊥)
     → IsRefusedRightly c
 no_video c none none2 = record {
   first = λ inputs fault ends. absurd (none inputs fault ends);
@@ -43,16 +43,18 @@ no_video c none none2 = record {
 }
 
 -- the end of a call is the end of its video, or of its trace
-pub call_source : (p : Params) (traced : Bool) → Some (if not traced then Video else Events) ≡ source_of (Call p traced)
+pub call_source : (p : Params) (traced : Bool) → Some (if not traced then Video else Events)
+    ≡ source_of_command (Call p traced)
 call_source p true = refl
 call_source p false = refl
 
 -- its run is that of the words
 as_run : (a : Asked) (c : Command) → a.command ≡ c → IsRefusedRightly c → (result : Status) (old new : Outside)
-    → IsRunOf (run_of c) ((Report, []) ∷ roles_of c a) (source_of c) result old new → IsNotUsage result
+    → IsRunOf (run_of_command c) ((Report, []) ∷ roles_of c a) (source_of_command c) result old new → IsNotUsage result
     → IsRun (Some a) result old new
 as_run a c e rightly result old new run words = record {
-  run = subst (λ (k : Command). IsRunOf (run_of k) ((Report, []) ∷ roles_of k a) (source_of k) result old new)
+  run = subst (λ (k : Command). IsRunOf (run_of_command k) ((Report, []) ∷ roles_of k a) (source_of_command k) result
+      old new)
       (sym e) run;
   usage = λ u. absurd (subst IsNotUsage u words);
   no_command = λ n. absurd (cc n);
@@ -213,17 +215,19 @@ asked_run words a old mid new result attaches quiet is run = run_since (command_
 -- the command that was asked for was performed with these roles
 pub command_run : (a : Asked) (c : Command) (roles : List (Role × Text)) (mid new : Outside) (result : Status)
     → ((k : Command) → IsRefusedRightly k) → roles ≡ roles_of a.command a → a.command ≡ c
-    → IsRunOf (run_of c) ((Report, []) ∷ roles) (source_of c) result mid new → IsNotUsage result
+    → IsRunOf (run_of_command c) ((Report, []) ∷ roles) (source_of_command c) result mid new → IsNotUsage result
     → IsRun (Some a) result mid new
 command_run a c roles mid new result rightly own is run not_usage =
     as_run a c is (rightly c) result mid new
-    (subst (λ (l : List (Role × Text)). IsRunOf (run_of c) ((Report, []) ∷ l) (source_of c) result mid new) (own
+    (subst (λ (l : List (Role × Text)). IsRunOf (run_of_command c) ((Report, []) ∷ l) (source_of_command c) result mid
+    new) (own
     ∙ ap (λ (k : Command). roles_of k a) is) run)
     not_usage
 
 -- the run of a command that is this one
 pub run_as : (c k : Command) (roles : List (Role × Text)) (result : Status) (old new : Outside) → c ≡ k
-    → IsRunOf (run_of k) ((Report, []) ∷ roles) (source_of k) result old new
-    → IsRunOf (run_of c) ((Report, []) ∷ roles) (source_of c) result old new
-run_as c k roles result old new is run = subst (λ (x : Command). IsRunOf (run_of x) ((Report, []) ∷ roles) (source_of x)
+    → IsRunOf (run_of_command k) ((Report, []) ∷ roles) (source_of_command k) result old new
+    → IsRunOf (run_of_command c) ((Report, []) ∷ roles) (source_of_command c) result old new
+run_as c k roles result old new is run = subst (λ (x : Command). IsRunOf (run_of_command x) ((Report, []) ∷ roles)
+    (source_of_command x)
     result old new) (sym is) run

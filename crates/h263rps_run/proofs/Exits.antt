@@ -4,7 +4,7 @@ use Rattle.h263_outside.specs.Desk.{Outside, NoneAttached}
 use Rattle.call_report.specs.declared.status.Status.TheVariants.{OutOfMemory}
 use Rattle.call_report.specs.Status.{code_of}
 use Rattle.command_words.specs.Asked.{Asked}
-use Rattle.command_words.specs.Simple.{Text}
+use Rattle.h263_types.specs.Texts.{Text}
 use Rattle.h263rps_run.specs.Output.{command_of}
 use Rattle.h263rps_run.specs.Promises.{IsExit, IsRun}
 use Rattle.h263rps_run.proofs.Asked.{starved_run}

@@ -7,7 +7,7 @@ use Rattle.std.specs.Prelude.{Bool, codes, map, nat_le, option_and_then, if◌th
 use Rattle.std.specs.List.{AllByRecursion}
 use Rattle.h263_outside.specs.declared.desk.Role.{Role}
 use Rattle.h263_outside.specs.declared.desk.Role.TheVariants.{Video, Video2, Events, Pictures, Pictures2, Wire}
-use Rattle.command_words.specs.Simple.{Text}
+use Rattle.h263_types.specs.Texts.{Text}
 use Rattle.command_words.specs.declared.command.Command.{Command}
 use Rattle.command_words.specs.declared.command.Command.TheVariants.{Call, Send, Recv, Demo, Rate, Audit, Duplex, Group}
 use Rattle.command_words.specs.Asked.{Asked, HasNames, IsGiven, Lookup, Roles, asking, name_in, roles, word_for}

@@ -11,7 +11,7 @@ use Rattle.command_words.specs.declared.simple.WordStop.{WordStop}
 use Rattle.command_words.specs.declared.simple.WordStop.TheVariants as stops
 use Rattle.command_words.specs.declared.command.Command.{Command}
 use Rattle.command_words.specs.declared.command.Command.TheVariants.{Call, Send, Recv, Demo, Rate, Audit, Duplex, Group}
-use Rattle.command_words.specs.Simple.{Text}
+use Rattle.h263_types.specs.Texts.{Text}
 use Rattle.command_words.specs.Asked.{Asked, asked, roles}
 use Rattle.desk_program.specs.Run.{Run, run_from, refusal}
 use Rattle.recv_command.specs.Recv.{recv_begin, recv_step}
@@ -72,20 +72,20 @@ order_from None = (Report, []) ∷ []
 order_from (Some a) = (Report, []) ∷ roles_of a.command a
 
 -- the input whose end is the end of the run
-abbrev pub source_of : Command → Option Role
-source_of (Call params false) = Some Video
-source_of (Call params true) = Some Events
-source_of (Send params target fit) = Some Events
-source_of (Recv params join) = Some Events
-source_of (Demo params seed frames) = None
-source_of (Rate target bucket) = Some Events
-source_of (Audit params) = Some Events
-source_of (Duplex params) = Some Events
-source_of (Group params receivers) = Some Events
+abbrev pub source_of_command : Command → Option Role
+source_of_command (Call params false) = Some Video
+source_of_command (Call params true) = Some Events
+source_of_command (Send params target fit) = Some Events
+source_of_command (Recv params join) = Some Events
+source_of_command (Demo params seed frames) = None
+source_of_command (Rate target bucket) = Some Events
+source_of_command (Audit params) = Some Events
+source_of_command (Duplex params) = Some Events
+source_of_command (Group params receivers) = Some Events
 
 abbrev pub source_from : Option Asked → Option Role
 source_from None = None
-source_from (Some a) = source_of a.command
+source_from (Some a) = source_of_command a.command
 
 -- ---- the output
 
@@ -114,24 +114,24 @@ abbrev pub bucket_of : ℕ → ℕ → Bucket
 bucket_of target bucket = record { target = target; bucket = bucket }
 
 -- what a command makes of its inputs, turn by turn
-abbrev pub run_of : Command → (Role → List ℕ) → Run
-run_of (Call params traced) inputs =
+abbrev pub run_of_command : Command → (Role → List ℕ) → Run
+run_of_command (Call params traced) inputs =
     run_from (call_begin (terms_of params traced) inputs) call_step (most_turns (not traced)) inputs
-run_of (Send params target fit) inputs =
+run_of_command (Send params target fit) inputs =
     run_from (send_begin (sending_of params target fit) inputs) send_step 16777216 inputs
-run_of (Recv params false) inputs = run_from (recv_begin params inputs) recv_step 16777216 inputs
-run_of (Recv params true) inputs = run_from (join_begin params inputs) join_step 16777216 inputs
-run_of (Demo params seed frames) inputs =
+run_of_command (Recv params false) inputs = run_from (recv_begin params inputs) recv_step 16777216 inputs
+run_of_command (Recv params true) inputs = run_from (join_begin params inputs) join_step 16777216 inputs
+run_of_command (Demo params seed frames) inputs =
     run_from (demo_begin (demo_terms params seed frames) inputs) demo_step
     (demo.made_turns (demo_terms params seed frames)) inputs
-run_of (Rate target bucket) inputs =
+run_of_command (Rate target bucket) inputs =
     run_from (rate_begin (bucket_of target bucket) inputs) rate_step 16777216 inputs
-run_of (Audit params) inputs = run_from (audit_begin params inputs) audit_step 16777216 inputs
-run_of (Duplex params) inputs = duplex_run params inputs
-run_of (Group params receivers) inputs = group_call_run (group_terms params receivers) inputs
+run_of_command (Audit params) inputs = run_from (audit_begin params inputs) audit_step 16777216 inputs
+run_of_command (Duplex params) inputs = duplex_run params inputs
+run_of_command (Group params receivers) inputs = group_call_run (group_terms params receivers) inputs
 
 -- what a command gives where the inputs hold these bytes: texts turn by turn, and a status. Where
 -- none was asked for it is Usage.
 abbrev pub output_of : Option Asked → (Role → List ℕ) → Run
 output_of None inputs = no_command
-output_of (Some a) inputs = run_of a.command inputs
+output_of (Some a) inputs = run_of_command a.command inputs

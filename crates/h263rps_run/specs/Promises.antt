@@ -14,7 +14,7 @@ use Rattle.desk_program.specs.Run.{Run}
 use Rattle.desk_program.specs.Ends.{Tells, HasCause, IsReadOut}
 use Rattle.desk_program.specs.Attached.{AttachedAt}
 use Rattle.desk_program.specs.Lines.{end_text}
-use Rattle.h263rps_run.specs.Output.{output_of, order_from, run_of, source_from}
+use Rattle.h263rps_run.specs.Output.{output_of, order_from, run_of_command, source_from}
 use Rattle.desk_program.specs.Promises.{HasPrefixes, HasStatus, HasTexts, IsFlushed, IsSettled, IsStopped, ReadsNothing, TakesInput}
 
 -- no role is attached, and nothing was written
@@ -70,9 +70,9 @@ pub record IsRun (asked : Option Asked) (result : Status) (old new : Outside) : 
 
 -- where a command's run refuses a video, the video has that fault
 pub record IsRefusedRightly (c : Command) : Type 0 where
-  pub first : (inputs : Role → List ℕ) (fault : Y4mFault) → (run_of c inputs).last.status ≡ VideoRefused fault
+  pub first : (inputs : Role → List ℕ) (fault : Y4mFault) → (run_of_command c inputs).last.status ≡ VideoRefused fault
       → video_fault (inputs Video) ≡ Some fault
-  pub second : (inputs : Role → List ℕ) (fault : Y4mFault) → (run_of c inputs).last.status ≡ Video2Refused fault
+  pub second : (inputs : Role → List ℕ) (fault : Y4mFault) → (run_of_command c inputs).last.status ≡ Video2Refused fault
       → video_fault (inputs Video2) ≡ Some fault
 
 -- the exit status is that of a run with these words

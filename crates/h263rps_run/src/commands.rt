@@ -6,7 +6,7 @@ ghost use Rattle.command_words.specs.Asked.{IsCommand};
 ghost use Rattle.command_words.specs.declared.command.Command.TheVariants as commands;
 ghost use Rattle.desk_program.specs.Attached.{AreAttached, are_free, names};
 ghost use Rattle.desk_program.specs.Promises.{IsNotUsage};
-ghost use Rattle.h263rps_run.specs.Output.{AreRolesOf, run_of, source_of};
+ghost use Rattle.h263rps_run.specs.Output.{AreRolesOf, run_of_command, source_of_command};
 ghost use Rattle.h263_types.specs.Params.{IsParams};
 ghost use Rattle.h263rps_run.specs.Promises.{IsRunOf};
 
@@ -53,8 +53,8 @@ fn call<D: Desk>(
     requires report { AreAttached ((Report, []) ∷ []) (D.outside desk.old) }
     requires ready { IsParams params }
     requires roles { AreRolesOf (commands.Call params traced) (names roles.now) }
-    ensures run { IsRunOf (run_of (commands.Call params traced)) ((Report, []) ∷ names roles.now)
-        (source_of (commands.Call params traced)) result
+    ensures run { IsRunOf (run_of_command (commands.Call params traced)) ((Report, []) ∷ names roles.now)
+        (source_of_command (commands.Call params traced)) result
         (D.outside desk.old) (D.outside desk.new) }
     ensures words { IsNotUsage result }
 {
@@ -72,8 +72,8 @@ fn receive<D: Desk>(
     requires report { AreAttached ((Report, []) ∷ []) (D.outside desk.old) }
     requires ready { IsParams params }
     requires roles { AreRolesOf (commands.Recv params join) (names roles.now) }
-    ensures run { IsRunOf (run_of (commands.Recv params join)) ((Report, []) ∷ names roles.now)
-        (source_of (commands.Recv params join)) result
+    ensures run { IsRunOf (run_of_command (commands.Recv params join)) ((Report, []) ∷ names roles.now)
+        (source_of_command (commands.Recv params join)) result
         (D.outside desk.old) (D.outside desk.new) }
     ensures words { IsNotUsage result }
 {
@@ -94,7 +94,7 @@ pub fn perform_command<D: Desk>(
     requires report { AreAttached ((Report, []) ∷ []) (D.outside desk.old) }
     requires ready { IsCommand command }
     requires roles { AreRolesOf command (names roles.now) }
-    ensures run { IsRunOf (run_of command) ((Report, []) ∷ names roles.now) (source_of command)
+    ensures run { IsRunOf (run_of_command command) ((Report, []) ∷ names roles.now) (source_of_command command)
         result (D.outside desk.old) (D.outside desk.new) }
     ensures words { IsNotUsage result }
 {

@@ -9,7 +9,7 @@ use Rattle.std.proofs.lemmas.Nat.Bits.{bit_at_lowest, bit_at_and, bit_at_or}
 use Rattle.std.proofs.lemmas.List.{get_or-replicate, length-replicate}
 use Rattle.std.proofs.lemmas.Simd.{chunk-fits, below_from_Fits, get_or-zip2, length-zip2, Each1-get_or}
 use Rattle.half_sample.specs.Averages.{average, average4, excess_of}
-use Rattle.half_sample.specs.Rows.{AreSamples}
+use Rattle.half_sample.specs.Rows.{IsRowOfSamples}
 
 -- ---- the lowest bits
 
@@ -175,7 +175,7 @@ four_at n r xs ys us vs es i hr ex ey eu ev ee hx hy hu hv hi he =
 -- ---- loads
 
 -- samples, as a load has them
-pub samples_are : {n : ℕ} {xs : List ℕ} → (length xs ≡ n) × Each1 (λ x. x < 256) xs → AreSamples n xs
+pub samples_are : {n : ℕ} {xs : List ℕ} → (length xs ≡ n) × Each1 (λ x. x < 256) xs → IsRowOfSamples n xs
 samples_are h = record { long = h.0; small = h.1 }
 
 -- a load of a row that is as long as the vector

@@ -12,13 +12,13 @@ use Rattle.h263_planes.specs.Picture.{Picture}
 use Rattle.h263_planes.specs.declared.Plane.{Plane}
 use Rattle.h263_planes.specs.declared.Plane.TheVariants.{Y, Cb, Cr}
 use Rattle.h263_planes.specs.Samples.{Inside}
-use Rattle.half_sample.specs.Prediction.{columns_in, interpolated, predicted_sample, moved, whole_part, is_half, IsColour}
+use Rattle.half_sample.specs.Prediction.{columns_in, interpolated, predicted_sample, moved_whole, whole_part, is_half, IsColour}
 use Rattle.half_sample.specs.Places.{BlockInside, IsHalfOf, LeadsTo}
 use Rattle.half_sample.specs.declared.place.Half.{Half}
 use Rattle.half_sample.specs.declared.place.Place.{Place}
 
 -- a sample further in the block moves as far
-moved_more : (a x i : ℕ) (whole : ℤ) → pos x ≡ pos a +ℤ whole → x + i ≡ moved (a + i) whole
+moved_more : (a x i : ℕ) (whole : ℤ) → pos x ≡ pos a +ℤ whole → x + i ≡ moved_whole (a + i) whole
 moved_more a x i whole h =
     let e : pos (a + i) +ℤ whole ≡ pos (x + i) = omega (arith, ints) in
     sym (ap unsigned_abs e)

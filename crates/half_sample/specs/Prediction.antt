@@ -45,14 +45,14 @@ interpolated p plane true true r x y =
     (sample_at p plane x (y + 1)) (sample_at p plane (x + 1) (y + 1))
 
 -- the place that whole samples lead to
-abbrev pub moved : ℕ → ℤ → ℕ
-moved x whole = unsigned_abs (pos x +ℤ whole)
+abbrev pub moved_whole : ℕ → ℤ → ℕ
+moved_whole x whole = unsigned_abs (pos x +ℤ whole)
 
 -- the sample that is predicted in column x of row y by a vector
 abbrev pub predicted_sample : Picture → Plane → ℕ → ℕ → Vector → ℕ → ℕ
 predicted_sample p plane x y v r =
     interpolated p plane (is_half plane v.x)
-    (is_half plane v.y) r (moved x (whole_part plane v.x)) (moved y (whole_part plane v.y))
+    (is_half plane v.y) r (moved_whole x (whole_part plane v.x)) (moved_whole y (whole_part plane v.y))
 
 -- the vector one whole luma sample further down
 abbrev pub one_below : Vector → Vector

@@ -14,7 +14,7 @@ use Rattle.half_sample.specs.declared.around.Line.{Line}
 use Rattle.half_sample.specs.declared.place.Place.{Place}
 
 -- n samples
-pub record AreSamples (n : ℕ) (xs : List ℕ) : Type 0 where
+pub record IsRowOfSamples (n : ℕ) (xs : List ℕ) : Type 0 where
   pub long : length xs ≡ n
   pub small : Each1 (λ x. x < 256) xs
 
@@ -29,13 +29,13 @@ sixteen_from p x y = map (λ i. sample_at p Y (x + i) y) (range_with_len 0 16)
 
 -- what a line knows of eighteen luma samples from column x of row y on: the sixteen in the middle, and their
 -- averages with the sixteen one column further left and with those one further right
-pub record IsLine (p : Picture) (x y : ℕ) (line : Line) : Type 0 where
-  pub before : AreSamples 16 (sixteen_from p x y)
-  pub middle : AreSamples 16 (sixteen_from p (x + 1) y)
-  pub after : AreSamples 16 (sixteen_from p (x + 1 + 1) y)
-  pub centre_samples : AreSamples 16 line.centre
-  pub left_samples : AreSamples 16 line.left
-  pub right_samples : AreSamples 16 line.right
+pub record IsSampleLine (p : Picture) (x y : ℕ) (line : Line) : Type 0 where
+  pub before : IsRowOfSamples 16 (sixteen_from p x y)
+  pub middle : IsRowOfSamples 16 (sixteen_from p (x + 1) y)
+  pub after : IsRowOfSamples 16 (sixteen_from p (x + 1 + 1) y)
+  pub centre_samples : IsRowOfSamples 16 line.centre
+  pub left_samples : IsRowOfSamples 16 line.left
+  pub right_samples : IsRowOfSamples 16 line.right
   pub left_odd_long : length line.left_odd ≡ 16
   pub right_odd_long : length line.right_odd ≡ 16
   pub centre : line.centre ≡ sixteen_from p (x + 1) y

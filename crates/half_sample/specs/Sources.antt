@@ -1,7 +1,7 @@
 -- Rows that are read in sixteen lanes: sixteen samples of luma, or eight of each colour beside one another.
 use Rattle.std.specs.Prelude.{◌≡◌, ℕ, ◌+◌, ◌*◌, ◌-◌, ◌<◌, ◌≤◌, Bool, cond, ◌&&◌, nat_le, List, length, slice_index}
 use Rattle.half_sample.specs.Averages.{average, average4}
-use Rattle.half_sample.specs.Rows.{AreMeans, AreSamples}
+use Rattle.half_sample.specs.Rows.{AreMeans, IsRowOfSamples}
 use Rattle.half_sample.specs.declared.source.Means.{Means}
 use Rattle.half_sample.specs.declared.source.Source.{Source}
 use Rattle.half_sample.specs.declared.place.Half.{Half}
@@ -25,11 +25,11 @@ pub record Reaches (s : Source) (at n : ℕ) : Type 0 where
 pub record IsLineOf (s : Source) (at : ℕ) (right : Bool) (line : Means) : Type 0 where
   pub here : List ℕ
   pub further : List ℕ
-  pub here_samples : AreSamples 16 here
-  pub further_samples : AreSamples 16 further
+  pub here_samples : IsRowOfSamples 16 here
+  pub further_samples : IsRowOfSamples 16 further
   pub here_is : (i : ℕ) → i < 16 → slice_index here i ≡ lane_of s at i
   pub further_is : (i : ℕ) → i < 16 → slice_index further i ≡ lane_of s (at + cond right 1 0) i
-  pub means : AreSamples 16 line.means
+  pub means : IsRowOfSamples 16 line.means
   pub odd : length line.odd ≡ 16
   pub are : AreMeans here further line.means line.odd
 

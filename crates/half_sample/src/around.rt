@@ -6,7 +6,7 @@ ghost use Rattle.h263_planes.specs.Lent.{picture};
 ghost use Rattle.h263_planes.specs.Samples.{Inside};
 ghost use Rattle.h263_planes.specs.declared.Plane.TheVariants.{Y};
 ghost use Rattle.half_sample.specs.Around.{AreAround, IsBetween};
-ghost use Rattle.half_sample.specs.Rows.{AreRowsAround, IsLine, ReadsAround};
+ghost use Rattle.half_sample.specs.Rows.{AreRowsAround, IsSampleLine, ReadsAround};
 
 use crate::place::{Place, place_of};
 use crate::rows::{load, mean, of_mean, of_means, store};
@@ -51,7 +51,7 @@ fn sixteen(row: &[u8], at: usize) -> &[u8]
 #[inline(always)]
 fn line_at(reference: PictureRef<'_>, x: u32, y: u32) -> Line
     requires { Inside (picture reference).format Y x y 18 }
-    ensures { IsLine (picture reference.entry) x y result }
+    ensures { IsSampleLine (picture reference.entry) x y result }
 {
     let row = reference.row(Plane::Y, x, y, 18);
     let before = load::<16>(sixteen(row, 0));

@@ -1,6 +1,6 @@
 //! Rows that are read in sixteen lanes: of luma, or of both colours beside one another.
 ghost use Rattle.std.specs.Prelude.{◌≡◌, ℕ, ◌+◌, ◌≤◌, ◌<◌, true, cond, length, slice_index};
-ghost use Rattle.half_sample.specs.Rows.{AreSamples};
+ghost use Rattle.half_sample.specs.Rows.{IsRowOfSamples};
 ghost use Rattle.half_sample.specs.Sources.{columns_beside, lane_between, lane_of, IsLineOf, Reaches};
 
 use crate::place::Half;
@@ -39,7 +39,7 @@ const BESIDE: [usize; 16] = [0, 1, 2, 3, 4, 5, 6, 7, 8, 9, 10, 11, 12, 13, 14, 1
 #[inline(always)]
 fn samples_at<const N: usize>(rows: &[u8], at: usize) -> Simd<u8, N>
     requires { at + N ≤ length rows.now }
-    ensures samples { AreSamples N result }
+    ensures samples { IsRowOfSamples N result }
     ensures value { (i : ℕ) → i < N → slice_index result i ≡ slice_index rows.now (at + i) }
 {
     load(&rows[at..at + N])
@@ -50,7 +50,7 @@ fn samples_at<const N: usize>(rows: &[u8], at: usize) -> Simd<u8, N>
 fn both(rows: &[u8], others: &[u8], at: usize) -> u8x16
     requires rows { at + 8 ≤ length rows.now }
     requires others { at + 8 ≤ length others.now }
-    ensures samples { AreSamples 16 result }
+    ensures samples { IsRowOfSamples 16 result }
     ensures first { (i : ℕ) → i < 8 → slice_index result i ≡ slice_index rows.now (at + i) }
     ensures second { (i : ℕ) → i < 8
         → slice_index result (8 + i) ≡ slice_index others.now (at + i) }
@@ -64,7 +64,7 @@ fn both(rows: &[u8], others: &[u8], at: usize) -> u8x16
 #[inline(always)]
 fn sixteen(source: Source<'_>, at: usize) -> u8x16
     requires { Reaches source at (columns_beside source.colours) }
-    ensures samples { AreSamples 16 result }
+    ensures samples { IsRowOfSamples 16 result }
     ensures value { (i : ℕ) → i < 16 → slice_index result i ≡ lane_of source.entry at i }
 {
     if source.colours {

@@ -10,7 +10,7 @@ use Rattle.std.proofs.lemmas.Int.{ints, unsigned_abs-mul}
 use Rattle.idct8.specs.Sums.{sum_below, total}
 use Rattle.idct8.specs.Basis.{basis}
 use Rattle.idct8.specs.Transform.{entry, forward_at, rounded}
-use Rattle.idct8.specs.Vectors.{lane, row_at, square}
+use Rattle.idct8.specs.Vectors.{lane, row_at, squared}
 use Rattle.idct8.specs.declared.passes.Row.{Row}
 use Rattle.idct8.proofs.Sums.{below_eight, same_sum, times_sum}
 use Rattle.idct8.proofs.Steps.{sums_added}
@@ -206,7 +206,7 @@ size_of_sum factor (suc n) f g h =
 
 -- the sum of the squares of half a row
 abbrev square_sum : ℕ → ℕ
-square_sum u = total 4 (λ x. square (basis u x))
+square_sum u = total 4 (λ x. squared (basis u x))
 
 squares_0 : square_sum 0 ≤ 16777851
 unfolding total basis
@@ -333,7 +333,7 @@ below size squares t h few most = below_by (nat_lt (size + 2 ^ 24) (2 ^ 25 * t))
 
 -- the sum of the squares of a part of the block
 abbrev pub energy : Bool → Bool → List ℤ → ℕ
-energy o q s = total 4 (λ x. total 4 (λ y. square (part o q s y x)))
+energy o q s = total 4 (λ x. total 4 (λ y. squared (part o q s y x)))
 
 -- The squares as they are added up: the columns are folded down into one half of some vectors' lanes each,
 -- and lane k of a
@@ -341,12 +341,12 @@ energy o q s = total 4 (λ x. total 4 (λ y. square (part o q s y x)))
 module _ (s : List ℤ) (rows : List Row) (o q : Bool) (at : ℕ → ℕ) (room : (k : ℕ) → k < 4 → at k < 8) (downs : (x k : ℕ)
     → x < 8 → k < 4 → lane (row_at rows x) (at k) ≡ down_at q s k x) (squares : List ℤ) (across : (i : ℕ) → i < 8
     → lane squares i ≡
-    pos (square (mirrored o (lane (row_at rows 0) i) (lane (row_at rows 7) i)) + square
+    pos (squared (mirrored o (lane (row_at rows 0) i) (lane (row_at rows 7) i)) + squared
     (mirrored o (lane (row_at rows 1) i) (lane (row_at rows 6) i))
-    + square (mirrored o (lane (row_at rows 2) i) (lane (row_at rows 5) i)) + square
+    + squared (mirrored o (lane (row_at rows 2) i) (lane (row_at rows 5) i)) + squared
     (mirrored o (lane (row_at rows 3) i) (lane (row_at rows 4) i)))) where
   row_of_part : (k : ℕ) → k < 4 → unsigned_abs (lane squares (at k))
-      ≡ square (part o q s k 0) + square (part o q s k 1) + square (part o q s k 2) + square (part o q s k 3)
+      ≡ squared (part o q s k 0) + squared (part o q s k 1) + squared (part o q s k 2) + squared (part o q s k 3)
   row_of_part k h =
       let down_0 = downs 0 k (lit< tt) h in
       let down_1 = downs 1 k (lit< tt) h in
@@ -357,8 +357,8 @@ module _ (s : List ℤ) (rows : List Row) (o q : Bool) (at : ℕ → ℕ) (room 
       let down_6 = downs 6 k (lit< tt) h in
       let down_7 = downs 7 k (lit< tt) h in
       ap unsigned_abs (across (at k) (room k h)
-      ∙ (λ i. pos (square (mirrored o (down_0 i) (down_7 i)) + square (mirrored o (down_1 i) (down_6 i)) + square
-      (mirrored o (down_2 i) (down_5 i)) + square (mirrored o (down_3 i) (down_4 i)))))
+      ∙ (λ i. pos (squared (mirrored o (down_0 i) (down_7 i)) + squared (mirrored o (down_1 i) (down_6 i)) + squared
+      (mirrored o (down_2 i) (down_5 i)) + squared (mirrored o (down_3 i) (down_4 i)))))
 
   four_rows : (g : ℕ → ℕ → ℕ) (most : ℕ)
       → (g 0 0 + g 0 1 + g 0 2 + g 0 3) + (g 1 0 + g 1 1 + g 1 2 + g 1 3) + (g 2 0 + g 2 1 + g 2 2 + g 2 3) +
@@ -371,9 +371,9 @@ module _ (s : List ℤ) (rows : List Row) (o q : Bool) (at : ℕ → ℕ) (room 
       (lane passed (at 2)) + unsigned_abs (lane passed (at 3)) ≤ most → energy o q s ≤ most
   energy_of passed same most few =
       let row : (k : ℕ) → k < 4 → unsigned_abs (lane passed (at k))
-      ≡ square (part o q s k 0) + square (part o q s k 1) + square (part o q s k 2) + square (part o q s k 3) =
+      ≡ squared (part o q s k 0) + squared (part o q s k 1) + squared (part o q s k 2) + squared (part o q s k 3) =
       λ k h. ap unsigned_abs (same (at k)) ∙ row_of_part k h in
-      four_rows (λ y x. square (part o q s y x)) most (omega (
+      four_rows (λ y x. squared (part o q s y x)) most (omega (
         arith,
         few,
         row 0 (lit< tt),
@@ -387,7 +387,7 @@ part_small : (s : List ℤ) (v u t most : ℕ) (o q : Bool) → v < 8 → u < 8 
     → most + 4 * t + 4 < 4 * (t * t) → t ≤ 77 →
     unsigned_abs (sum_below 4 (λ x. sum_below 4 (λ y. basis u x *ℤ basis v y *ℤ part o q s y x))) + 2 ^ 24 < 2 ^ 25 * t
 part_small s v u t most o q hv hu energies few top =
-    let squares : ℕ → ℕ → ℕ = λ x y. square (part o q s y x) in
+    let squares : ℕ → ℕ → ℕ = λ x y. squared (part o q s y x) in
     let product : ℕ → ℕ → ℕ = λ x y. unsigned_abs (basis u x) * unsigned_abs (basis v y) *
     (unsigned_abs (basis u x) * unsigned_abs (basis v y)) in
     let term : ℕ → ℕ → ℤ = λ x y. basis u x *ℤ basis v y *ℤ part o q s y x in
@@ -448,10 +448,10 @@ mirrored_size true a b = omega (arith, ints)
 square_of_sum : (m n : ℕ) → (m + n) * (m + n) ≤ 2 * (m * m + n * n)
 square_of_sum m n = let products = two_squares m n in omega (arith, products)
 
-mirrored_square : (o : Bool) (a b : ℤ) → square (mirrored o a b) ≤ 2 * (square a + square b)
+mirrored_square : (o : Bool) (a b : ℤ) → squared (mirrored o a b) ≤ 2 * (squared a + squared b)
 mirrored_square o a b =
     let size = mirrored_size o a b in
-    let most : square (mirrored o a b) ≤ (unsigned_abs a + unsigned_abs b) * (unsigned_abs a + unsigned_abs b) =
+    let most : squared (mirrored o a b) ≤ (unsigned_abs a + unsigned_abs b) * (unsigned_abs a + unsigned_abs b) =
     mul-le-mul size size in
     omega (arith, most, square_of_sum (unsigned_abs a) (unsigned_abs b))
 
@@ -460,7 +460,7 @@ abbrev four_squares : (ℕ → ℕ) → ℕ → ℕ → ℕ
 four_squares g y x = 4 * (g (8 * y + x) + g (8 * (7 - y) + x) + g (8 * y + (7 - x)) + g (8 * (7 - y) + (7 - x)))
 
 part_square : (o q : Bool) (s : List ℤ) (y x : ℕ)
-    → square (part o q s y x) ≤ four_squares (λ k. square (get_or s k (pos 0))) y x
+    → squared (part o q s y x) ≤ four_squares (λ k. squared (get_or s k (pos 0))) y x
 part_square o q s y x =
     let across = mirrored_square o (down_at q s y x) (down_at q s y (7 - x)) in
     let here = mirrored_square q (entry s y x) (entry s (7 - y) x) in
@@ -472,17 +472,17 @@ all_squares : (g : ℕ → ℕ) → total 4 (λ x. total 4 (λ y. four_squares g
 unfolding total
 all_squares g = omega arith
 
-energy_most : (o q : Bool) (s : List ℤ) → energy o q s ≤ 4 * total 64 (λ k. square (get_or s k (pos 0)))
+energy_most : (o q : Bool) (s : List ℤ) → energy o q s ≤ 4 * total 64 (λ k. squared (get_or s k (pos 0)))
 energy_most o q s =
-    let g : ℕ → ℕ = λ k. square (get_or s k (pos 0)) in
+    let g : ℕ → ℕ = λ k. squared (get_or s k (pos 0)) in
     subst (λ (n : ℕ). energy o q s ≤ n) (all_squares g)
-    (total_most 4 (λ x. total 4 (λ y. square (part o q s y x))) (λ x. total 4 (λ y. four_squares g y x))
-    (λ x. total_most 4 (λ y. square (part o q s y x)) (λ y. four_squares g y x) (λ y. part_square o q s y x)))
+    (total_most 4 (λ x. total 4 (λ y. squared (part o q s y x))) (λ x. total 4 (λ y. four_squares g y x))
+    (λ x. total_most 4 (λ y. squared (part o q s y x)) (λ y. four_squares g y x) (λ y. part_square o q s y x)))
 
 -- a coefficient is smaller than t where the whole block has so small a sum of squares
 pub coefficient_small : (s : List ℤ) (v u t : ℕ) → v < 8 → u < 8 → t ≤ 77
-    → total 64 (λ k. square (get_or s k (pos 0))) + t + 1 < t * t →
+    → total 64 (λ k. squared (get_or s k (pos 0))) + t + 1 < t * t →
     unsigned_abs (forward_at s v u) < t
 coefficient_small s v u t hv hu top few =
-    coefficient_below s v u t (4 * total 64 (λ k. square (get_or s k (pos 0)))) hv hu (λ o q. energy_most o q s)
+    coefficient_below s v u t (4 * total 64 (λ k. squared (get_or s k (pos 0)))) hv hu (λ o q. energy_most o q s)
     (omega (arith, few)) top

@@ -8,19 +8,19 @@ use Rattle.idct8.specs.declared.passes.Row.{Row}
 use Rattle.idct8.specs.Ranges.{IsSample, Within}
 use Rattle.idct8.specs.Sums.{total}
 use Rattle.idct8.specs.Transform.{entry}
-use Rattle.idct8.specs.Vectors.{lane, row_at, square, EightWithin}
+use Rattle.idct8.specs.Vectors.{lane, row_at, squared, EightWithin}
 use Rattle.std.specs.Prelude.{All}
 use Rattle.idct8.proofs.Factors.{within_same}
 use Rattle.idct8.proofs.Results.{sample_within}
 use Rattle.idct8.proofs.Vectors.{passed_lane, within_fits}
 use Rattle.idct8.proofs.Wraps.{abs_from_within}
 
-pub product_is_square : (z : ℤ) → z *ℤ z ≡ pos (square z)
+pub product_is_square : (z : ℤ) → z *ℤ z ≡ pos (squared z)
 product_is_square (pos n) = refl
 product_is_square (negsuc n) = refl
 
-pub two_squares : (a b : ℤ) {z : ℤ} → z ≡ a *ℤ a +ℤ b *ℤ b → z ≡ pos (square a + square b)
-two_squares a b {z} e = let f : a *ℤ a +ℤ b *ℤ b ≡ pos (square a) +ℤ pos (square b) = cc (
+pub two_squares : (a b : ℤ) {z : ℤ} → z ≡ a *ℤ a +ℤ b *ℤ b → z ≡ pos (squared a + squared b)
+two_squares a b {z} e = let f : a *ℤ a +ℤ b *ℤ b ≡ pos (squared a) +ℤ pos (squared b) = cc (
   product_is_square a,
   product_is_square b,
 ) in e ∙ f
@@ -29,15 +29,15 @@ added : (k l m n : ℕ) → pos (k + l) +ℤ pos (m + n) ≡ pos (k + l + m + n)
 added k l m n = omega (arith, ints)
 
 -- two sums of two squares of passed numbers
-pub four_squares : {s t a b c d a' b' c' d' : ℤ} → s ≡ pos (square a' + square b') → t ≡ pos (square c' + square d')
+pub four_squares : {s t a b c d a' b' c' d' : ℤ} → s ≡ pos (squared a' + squared b') → t ≡ pos (squared c' + squared d')
     → a' ≡ a → b' ≡ b → c' ≡ c → d' ≡ d →
-    s +ℤ t ≡ pos (square a + square b + square c + square d)
+    s +ℤ t ≡ pos (squared a + squared b + squared c + squared d)
 four_squares {s} {t} {a} {b} {c} {d} {a'} {b'} {c'} {d'} es et ea eb ec ed =
-    let e : s +ℤ t ≡ pos (square a + square b) +ℤ pos (square c + square d) = cc (es, et, ea, eb, ec, ed) in
-    e ∙ added (square a) (square b) (square c) (square d)
+    let e : s +ℤ t ≡ pos (squared a + squared b) +ℤ pos (squared c + squared d) = cc (es, et, ea, eb, ec, ed) in
+    e ∙ added (squared a) (squared b) (squared c) (squared d)
 
 pub same_squares : {a b c d a' b' c' d' : ℤ} → a ≡ a' → b ≡ b' → c ≡ c' → d ≡ d'
-    → pos (square a + square b + square c + square d) ≡ pos (square a' + square b' + square c' + square d')
+    → pos (squared a + squared b + squared c + squared d) ≡ pos (squared a' + squared b' + squared c' + squared d')
 same_squares ea eb ec ed = cc (ea, eb, ec, ed)
 
 -- a row of samples
@@ -93,7 +93,7 @@ up_by {z} {y} {n} e f = omega (arith, ints, e, f)
 
 -- ---- the squares of all rows of a block
 
-square_most : (z : ℤ) → Within 255 z → square z ≤ 65025
+square_most : (z : ℤ) → Within 255 z → squared z ≤ 65025
 square_most z h = let size : unsigned_abs z ≤ 255 = abs_from_within 255 z h in mul-le-mul size size
 
 -- two sums of four squares of passed numbers
@@ -105,7 +105,7 @@ eight_squares {s} {t} {p} {q} {m} {n} ep eq es et =
 
 -- four of samples
 pub four_small : (a b c d : ℤ) → Within 255 a → Within 255 b → Within 255 c → Within 255 d
-    → square a + square b + square c + square d ≤ 260100
+    → squared a + squared b + squared c + squared d ≤ 260100
 four_small a b c d ha hb hc hd = omega (arith, square_most a ha, square_most b hb, square_most c hc, square_most d hd)
 
 pub small_sum : {z : ℤ} {m n : ℕ} → z ≡ pos (m + n) → m ≤ 260100 → n ≤ 260100 → Within 520200 z
@@ -128,12 +128,13 @@ by_columns g e e0 e1 e2 e3 e4 e5 e6 e7 = omega (arith, e, e0, e1, e2, e3, e4, e5
 -- the squares of a column as the lanes add them up
 pub column_squares : (s : List ℤ) (r : List Row) (v : List ℤ) (i : ℕ) → i < 8
     → ((j i : ℕ) → j < 8 → i < 8 → lane (row_at r j) i ≡ entry s j i) →
-    lane v i ≡ pos (square (lane (row_at r 0) i) + square (lane (row_at r 1) i) + square (lane (row_at r 2) i) + square
+    lane v i ≡ pos (squared (lane (row_at r 0) i) + squared (lane (row_at r 1) i) + squared
+    (lane (row_at r 2) i) + squared
     (lane (row_at r 3) i)
-    + (square (lane (row_at r 4) i) + square (lane (row_at r 5) i) + square (lane (row_at r 6) i) + square
+    + (squared (lane (row_at r 4) i) + squared (lane (row_at r 5) i) + squared (lane (row_at r 6) i) + squared
     (lane (row_at r 7) i))) →
-    unsigned_abs (lane v i) ≡ square (entry s 0 i) + square (entry s 1 i) + square (entry s 2 i) + square
-    (entry s 3 i) + (square (entry s 4 i) + square (entry s 5 i) + square (entry s 6 i) + square (entry s 7 i))
+    unsigned_abs (lane v i) ≡ squared (entry s 0 i) + squared (entry s 1 i) + squared (entry s 2 i) + squared
+    (entry s 3 i) + (squared (entry s 4 i) + squared (entry s 5 i) + squared (entry s 6 i) + squared (entry s 7 i))
 column_squares s r v i hi numbers e =
     ap unsigned_abs e
     ∙ eight (numbers 0 i (lit< tt) hi) (numbers 1 i (lit< tt) hi) (numbers 2 i (lit< tt) hi) (numbers 3 i (lit< tt) hi)
@@ -141,6 +142,6 @@ column_squares s r v i hi numbers e =
   where
     eight : {a b c d e f g h a' b' c' d' e' f' g' h' : ℤ} → a ≡ a' → b ≡ b' → c ≡ c' → d ≡ d' → e ≡ e' → f ≡ f' → g ≡ g'
         → h ≡ h' →
-        square a + square b + square c + square d + (square e + square f + square g + square h)
-        ≡ square a' + square b' + square c' + square d' + (square e' + square f' + square g' + square h')
+        squared a + squared b + squared c + squared d + (squared e + squared f + squared g + squared h)
+        ≡ squared a' + squared b' + squared c' + squared d' + (squared e' + squared f' + squared g' + squared h')
     eight ea eb ec ed ee ef eg eh = cc (ea, eb, ec, ed, ee, ef, eg, eh)

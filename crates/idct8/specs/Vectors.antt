@@ -5,8 +5,8 @@ use Rattle.idct8.specs.declared.passes.Sum.{Sum}
 use Rattle.idct8.specs.Ranges.{Within}
 
 -- the square of a number
-abbrev pub square : ℤ → ℕ
-square z = unsigned_abs z * unsigned_abs z
+abbrev pub squared : ℤ → ℕ
+squared z = unsigned_abs z * unsigned_abs z
 
 -- lane i of a vector
 abbrev pub lane : List ℤ → ℕ → ℤ

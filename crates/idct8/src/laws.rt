@@ -5,7 +5,7 @@ ghost use Rattle.std.specs.Int.{int_shr};
 ghost use Rattle.idct8.specs.Near.{near_at, IsBracketed};
 ghost use Rattle.idct8.specs.Sums.{total};
 ghost use Rattle.idct8.specs.Transform.{forward_at, inverse_at};
-ghost use Rattle.idct8.specs.Vectors.{square};
+ghost use Rattle.idct8.specs.Vectors.{squared};
 
 /// The inverse transform of a block whose values are all 0 is 0 everywhere.
 pub fn zeros_give_zeros()
@@ -17,7 +17,7 @@ pub fn zeros_give_zeros()
 /// samples. So where that sum is small each coefficient is smaller than `least`.
 pub fn small_squares()
     ensures { (samples : List ℤ) (v u least : ℕ) → v < 8 → u < 8 → least ≤ 77
-        → total 64 (λ k. square (slice_index_or samples k (pos 0))) + least + 1 < least * least
+        → total 64 (λ k. squared (slice_index_or samples k (pos 0))) + least + 1 < least * least
         → unsigned_abs (forward_at samples v u) < least }
 {}
 

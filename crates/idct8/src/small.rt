@@ -7,7 +7,7 @@ ghost use Rattle.std.specs.Prelude.{◌≡◌, ℕ, ◌+◌, ◌-◌, ◌<◌, �
 ghost use Rattle.idct8.specs.Ranges.{IsSample};
 ghost use Rattle.idct8.specs.Sums.{total};
 ghost use Rattle.idct8.specs.Transform.{entry, forward_at};
-ghost use Rattle.idct8.specs.Vectors.{lane, EightWithin, RowsWithin, row_at, square};
+ghost use Rattle.idct8.specs.Vectors.{lane, EightWithin, RowsWithin, row_at, squared};
 
 use crate::passes::{Row, Rows};
 use crate::terms::pair;
@@ -31,7 +31,7 @@ pub fn are_below(samples: &[i16; 64], least: u32) -> bool
 /// The sum of the squares of a block of samples, or of their differences.
 pub fn sum_of_squares(samples: &[i16; 64]) -> u32
     requires { All IsSample samples.now }
-    ensures sum { result ≡ total 64 (λ k. square (slice_index_or samples.now k (pos 0))) }
+    ensures sum { result ≡ total 64 (λ k. squared (slice_index_or samples.now k (pos 0))) }
     ensures most { result ≤ 4161600 }
 {
     sum_of_lanes(squares_down(rows(samples)))
@@ -42,10 +42,10 @@ pub fn sum_of_squares(samples: &[i16; 64]) -> u32
 fn squares_down(r: Rows) -> i32x8
     requires { RowsWithin 255 r }
     ensures value { (i : ℕ) → i < 8 → lane result i
-        ≡ pos (square (lane (row_at r 0) i) + square (lane (row_at r 1) i)
-        + square (lane (row_at r 2) i) + square (lane (row_at r 3) i)
-        + (square (lane (row_at r 4) i) + square (lane (row_at r 5) i)
-        + square (lane (row_at r 6) i) + square (lane (row_at r 7) i))) }
+        ≡ pos (squared (lane (row_at r 0) i) + squared (lane (row_at r 1) i)
+        + squared (lane (row_at r 2) i) + squared (lane (row_at r 3) i)
+        + (squared (lane (row_at r 4) i) + squared (lane (row_at r 5) i)
+        + squared (lane (row_at r 6) i) + squared (lane (row_at r 7) i))) }
     ensures size { EightWithin 520200 result }
 {
     squares_of_four(r[0].lanes, r[1].lanes, r[2].lanes, r[3].lanes)
@@ -129,7 +129,7 @@ fn folded(block: &[i16; 64]) -> Rows
 fn squares(a: i16x8, b: i16x8) -> i32x8
     requires a { EightWithin 16382 a }
     requires b { EightWithin 16382 b }
-    ensures value { (i : ℕ) → i < 8 → lane result i ≡ pos (square (lane a i) + square (lane b i)) }
+    ensures value { (i : ℕ) → i < 8 → lane result i ≡ pos (squared (lane a i) + squared (lane b i)) }
     ensures size { EightWithin 536739848 result }
 {
     let x: i32x8 = a.cast();
@@ -145,7 +145,7 @@ fn squares_of_four(a: i16x8, b: i16x8, c: i16x8, d: i16x8) -> i32x8
     requires c { EightWithin 16382 c }
     requires d { EightWithin 16382 d }
     ensures value { (i : ℕ) → i < 8 → lane result i
-        ≡ pos (square (lane a i) + square (lane b i) + square (lane c i) + square (lane d i)) }
+        ≡ pos (squared (lane a i) + squared (lane b i) + squared (lane c i) + squared (lane d i)) }
     ensures size { EightWithin 1073479696 result }
 {
     squares(a, b) + squares(c, d)
@@ -157,15 +157,15 @@ fn squares_of_four(a: i16x8, b: i16x8, c: i16x8, d: i16x8) -> i32x8
 fn squares_across(r: Rows) -> (i32x8, i32x8)
     requires { RowsWithin 8191 r }
     ensures sums { (i : ℕ) → i < 8 → lane result.0 i
-        ≡ pos (square (lane (row_at r 0) i +ℤ lane (row_at r 7) i)
-        + square (lane (row_at r 1) i +ℤ lane (row_at r 6) i)
-        + square (lane (row_at r 2) i +ℤ lane (row_at r 5) i)
-        + square (lane (row_at r 3) i +ℤ lane (row_at r 4) i)) }
+        ≡ pos (squared (lane (row_at r 0) i +ℤ lane (row_at r 7) i)
+        + squared (lane (row_at r 1) i +ℤ lane (row_at r 6) i)
+        + squared (lane (row_at r 2) i +ℤ lane (row_at r 5) i)
+        + squared (lane (row_at r 3) i +ℤ lane (row_at r 4) i)) }
     ensures differences { (i : ℕ) → i < 8 → lane result.1 i
-        ≡ pos (square (lane (row_at r 0) i -ℤ lane (row_at r 7) i)
-        + square (lane (row_at r 1) i -ℤ lane (row_at r 6) i)
-        + square (lane (row_at r 2) i -ℤ lane (row_at r 5) i)
-        + square (lane (row_at r 3) i -ℤ lane (row_at r 4) i)) }
+        ≡ pos (squared (lane (row_at r 0) i -ℤ lane (row_at r 7) i)
+        + squared (lane (row_at r 1) i -ℤ lane (row_at r 6) i)
+        + squared (lane (row_at r 2) i -ℤ lane (row_at r 5) i)
+        + squared (lane (row_at r 3) i -ℤ lane (row_at r 4) i)) }
     ensures sums_size { EightWithin 1073479696 result.0 }
     ensures differences_size { EightWithin 1073479696 result.1 }
 {

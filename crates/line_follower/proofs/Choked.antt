@@ -5,11 +5,11 @@ use Rattle.line_follower.specs.declared.line.Line.{Line}
 use Rattle.line_follower.specs.declared.lateness.Lateness.{Lateness}
 use Rattle.line_follower.specs.declared.picture.Picture.{Picture}
 use Rattle.line_follower.specs.Choking.{late_count, lateness_with}
-use Rattle.line_follower.specs.Following.{is_held_by, longest_of}
+use Rattle.line_follower.specs.Following.{is_held_by, longest_silence}
 use Rattle.line_follower.specs.Laws.{ChokedGivesWay, ChokedThrice, HeldBriefly}
-use Rattle.line_follower.specs.Losing.{carried_by, counted, is_judged}
-use Rattle.line_follower.specs.Owing.{least_of}
-use Rattle.line_follower.specs.Rating.{cut_of, cutting_action, heard, is_choked, slope_with, turned}
+use Rattle.line_follower.specs.Losing.{carried_by, losses_counted, is_judged}
+use Rattle.line_follower.specs.Owing.{least_trip_of}
+use Rattle.line_follower.specs.Rating.{eighths_left, cutting_action, line_heard, is_choked, slope_with, line_turned}
 use Rattle.line_follower.specs.Table.{open_of, trip_of}
 
 -- ---- no frame is held for long
@@ -21,7 +21,7 @@ held_briefly_by : (now : ℕ) (l : Line) (o : Option Picture) → 200000000 ≤ 
     → is_held_by now l o ≡ false
 held_briefly_by now l None h = refl
 held_briefly_by now l (Some p) h =
-    first_false (leb 200000000 (now - l.out)) (ltb (longest_of l) (trip_of now p))
+    first_false (leb 200000000 (now - l.out)) (ltb (longest_silence l) (trip_of now p))
     (le-leb 200000000 (now - l.out) h)
 
 pub held_briefly : HeldBriefly
@@ -45,17 +45,17 @@ with_most true least at trip l h =
 with_most false least at trip l h = omega arith
 
 late_heard : (p : Picture) (w : Bool) (now : ℕ) (l : Line)
-    → (heard p w now l).late ≡ lateness_with (least_of l.least_trip) p.at (trip_of now p) l.late
+    → (line_heard p w now l).late ≡ lateness_with (least_trip_of l.least_trip) p.at (trip_of now p) l.late
 late_heard p true now l = refl
 late_heard p false now l = refl
 
 pub choked_thrice : ChokedThrice
 choked_thrice p w through now l e =
-    let m = heard p w now l in
+    let m = line_heard p w now l in
     let h = leb-true 3 m.late.count (both_true (leb 3 m.late.count) (ltb (2 * through) m.rate) e) in
     let k = ap (λ (x : Lateness). x.count) (late_heard p w now l) in
-    let i : 3 ≤ (lateness_with (least_of l.least_trip) p.at (trip_of now p) l.late).count = omega arith in
-    with_most (ltb l.late.at p.at) (least_of l.least_trip) p.at (trip_of now p) l.late i
+    let i : 3 ≤ (lateness_with (least_trip_of l.least_trip) p.at (trip_of now p) l.late).count = omega arith in
+    with_most (ltb l.late.at p.at) (least_trip_of l.least_trip) p.at (trip_of now p) l.late i
 
 -- ---- what is left
 
@@ -66,9 +66,9 @@ less_of : (a b rate l : ℕ) → a ≡ b → max (min a rate) l ≤ max b l
 less_of a b rate l e = omega arith
 
 gives_way : (o : Option ℕ) (p : Picture) (through now : ℕ) (l : Line) → o ≡ Some 2
-    → let m = turned (cutting_action o (slope_with p false now l)
-    (is_judged now (counted p.packets false l.losses)) through (heard p false now l)) through now
-    (heard p false now l) in
+    → let m = line_turned (cutting_action o (slope_with p false now l)
+    (is_judged now (losses_counted p.packets false l.losses)) through (line_heard p false now l)) through now
+    (line_heard p false now l) in
     (m.rate ≤ max (l.rate * 2 / 8) l.least) × (m.paused ≡ min (now + 200000000) 18446744073709551615)
 gives_way None p through now l e = cc
 gives_way (Some n) p through now l e =
@@ -80,6 +80,6 @@ gives_way (Some n) p through now l e =
 
 pub choked_gives_way : ChokedGivesWay
 choked_gives_way p through now l e =
-    let m = heard p false now l in
-    gives_way (cut_of false through m) p through now l
+    let m = line_heard p false now l in
+    gives_way (eighths_left false through m) p through now l
     (cut_two (is_choked through m) (carried_by m.latest) e)

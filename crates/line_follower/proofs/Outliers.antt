@@ -9,11 +9,11 @@ use Rattle.line_follower.specs.declared.line.Action.TheVariants as actions
 use Rattle.line_follower.specs.declared.trend.Slope.{Slope}
 use Rattle.line_follower.specs.declared.trend.Slope.TheVariants as slopes
 use Rattle.line_follower.specs.Laws.{AllBut, LateAlone, OneOutlier, TwoInARow, trips_of}
-use Rattle.line_follower.specs.Losing.{carried_by, counted, is_judged, latest_with}
-use Rattle.line_follower.specs.Rating.{calm_action, cutting_action, draining_action, heard, may_grow, more_of, speed_of, turned}
+use Rattle.line_follower.specs.Losing.{carried_by, losses_counted, is_judged, latest_with}
+use Rattle.line_follower.specs.Rating.{calm_action, cutting_action, draining_action, line_heard, may_grow, rate_grown, speed_of, line_turned}
 use Rattle.line_follower.specs.Table.{trip_of}
 use Rattle.line_follower.specs.Numbers.{middle_two}
-use Rattle.line_follower.specs.Trending.{fall_of, is_down, is_full, is_up, rise_of, slope_of, thirds_with, trips_with}
+use Rattle.line_follower.specs.Trending.{fall_of, is_down, are_trips_full, is_up, rise_of, slope_of, thirds_with, trips_with}
 
 -- ---- the two in the middle of four
 
@@ -144,7 +144,7 @@ rising false c d false e = cc
 pub two_in_a_row : TwoInARow
 two_in_a_row rate trip bytes t e =
     let thirds = thirds_with rate trip bytes t in
-    rising (is_full (trips_with trip bytes t.trips)) (is_down t.threshold.micros thirds)
+    rising (are_trips_full (trips_with trip bytes t.trips)) (is_down t.threshold.micros thirds)
     (is_up t.threshold.micros thirds) t.is_rising e
 
 -- ---- one late message
@@ -161,25 +161,25 @@ no_less : (more rate most cap : ℕ) → rate ≤ max (min more (min most cap)) 
 no_less more rate most cap = omega arith
 
 grows_or_stays : (b : Bool) (through now : ℕ) (l : Line)
-    → l.rate ≤ (turned (cond b actions.Grow actions.Keep) through now l).rate
+    → l.rate ≤ (line_turned (cond b actions.Grow actions.Keep) through now l).rate
 grows_or_stays true through now l =
-    no_less (more_of l.rate (speed_of l.rate l.full) (min (now - l.grown) 1000000000 / 1000)) l.rate l.most
+    no_less (rate_grown l.rate (speed_of l.rate l.full) (min (now - l.grown) 1000000000 / 1000)) l.rate l.most
     (3 * through / 2)
 grows_or_stays false through now l = omega arith
 
 calm : (s : Slope) (through now : ℕ) (l : Line) → (s ≡ slopes.Rising → ⊥)
-    → l.rate ≤ (turned (calm_action s through l) through now l).rate
+    → l.rate ≤ (line_turned (calm_action s through l) through now l).rate
 calm slopes.Rising through now l h = absurd (h refl)
 calm slopes.Falling through now l h = omega arith
 calm slopes.Level through now l h = grows_or_stays (may_grow through l) through now l
 
 draining : (o : Option Drain) (s : Slope) (through now : ℕ) (l : Line) → (s ≡ slopes.Rising → ⊥)
-    → l.rate ≤ (turned (draining_action o s through l) through now l).rate
+    → l.rate ≤ (line_turned (draining_action o s through l) through now l).rate
 draining None s through now l h = calm s through now l h
 draining (Some d) s through now l h = omega arith
 
 quiet : (o : Option ℕ) (j : Bool) (s : Slope) (through now : ℕ) (l : Line) → o ≡ None → j ≡ false
-    → (s ≡ slopes.Rising → ⊥) → l.rate ≤ (turned (cutting_action o s j through l) through now l).rate
+    → (s ≡ slopes.Rising → ⊥) → l.rate ≤ (line_turned (cutting_action o s j through l) through now l).rate
 quiet None false s through now l e i h = draining l.drains s through now l h
 quiet None true s through now l e i h = cc
 quiet (Some n) j s through now l e i h = cc
@@ -188,7 +188,8 @@ pub late_alone : LateAlone
 late_alone p through now low high place l near h e i =
     let thirds = thirds_with l.rate (trip_of now p) p.bytes l.trend in
     let up = (one_outlier l.trend.threshold.micros low high place thirds near h).0 in
-    quiet (carried_by (latest_with p.packets true l.latest)) (is_judged now (counted p.packets true l.losses))
-    (slope_of l.rate (trip_of now p) p.bytes l.trend) through now (heard p true now l) e i
-    (not_rising (is_full (trips_with (trip_of now p) p.bytes l.trend.trips)) (is_down l.trend.threshold.micros thirds)
+    quiet (carried_by (latest_with p.packets true l.latest)) (is_judged now (losses_counted p.packets true l.losses))
+    (slope_of l.rate (trip_of now p) p.bytes l.trend) through now (line_heard p true now l) e i
+    (not_rising (are_trips_full (trips_with (trip_of now p) p.bytes l.trend.trips))
+    (is_down l.trend.threshold.micros thirds)
     (is_up l.trend.threshold.micros thirds) l.trend.is_rising up)

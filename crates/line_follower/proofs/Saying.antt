@@ -7,10 +7,10 @@ use Rattle.std.specs.List.{AllByRecursion, slice_get}
 use Rattle.line_follower.specs.declared.follower.Follower.{Follower}
 use Rattle.line_follower.specs.declared.pace.Bounds.{Bounds}
 use Rattle.line_follower.specs.declared.picture.Picture.{Picture}
-use Rattle.line_follower.specs.Following.{after_told, noticed, sent_picture, started, told_of, with_line, with_told}
-use Rattle.line_follower.specs.Laws.{Event, IsOther, NeverSent, Sends, Tells, ToldTwice, after, after_all}
-use Rattle.line_follower.specs.Rating.{told_line}
-use Rattle.line_follower.specs.Table.{fate_of, is_open, is_untold, no_picture, open_at, open_of, put, through, told_as}
+use Rattle.line_follower.specs.Following.{after_told, noticed, sent_picture, started, follower_told_of, follower_with_line, with_told}
+use Rattle.line_follower.specs.Laws.{FollowerEvent, IsOther, NeverSent, Sends, Tells, ToldTwice, follower_after, follower_after_all}
+use Rattle.line_follower.specs.Rating.{line_when_told}
+use Rattle.line_follower.specs.Table.{fate_of, is_untold_number, is_untold, no_picture, open_at, open_of, put, rate_through, picture_told}
 
 -- ---- places
 
@@ -33,10 +33,10 @@ get_set_same (r ∷ ps) (suc i) p q e = get_set_same ps i p q e
 abbrev Closed : ℕ → List Picture → Type 0
 Closed n ps = open_of n ps ≡ None
 
-closed_one : (n : ℕ) (q : Picture) → is_open n q ≡ false → open_at n (Some q) ≡ None
+closed_one : (n : ℕ) (q : Picture) → is_untold_number n q ≡ false → open_at n (Some q) ≡ None
 closed_one n q e = ap (λ (b : Bool). cond b (let x : Option Picture = Some q in x) None) e
 
-closed_put : (n i : ℕ) (q : Picture) (ps : List Picture) → is_open n q ≡ false → Closed n ps
+closed_put : (n i : ℕ) (q : Picture) (ps : List Picture) → is_untold_number n q ≡ false → Closed n ps
     → Closed n (set ps i q)
 closed_put n i q ps e h =
     ⊎_elim (λ (s : slice_get (set ps i q) (n % 256) ≡ slice_get ps (n % 256)). ap (open_at n) s ∙ h)
@@ -54,43 +54,45 @@ told_untold : (w : Bool) (now : ℕ) → is_untold (fate_of w now) ≡ false
 told_untold true now = refl
 told_untold false now = refl
 
-told_not_open : (n : ℕ) (w : Bool) (now : ℕ) (p : Picture) → is_open n (told_as w now p) ≡ false
+told_not_open : (n : ℕ) (w : Bool) (now : ℕ) (p : Picture) → is_untold_number n (picture_told w now p) ≡ false
 told_not_open n w now p = both_false (eqb p.number n) (is_untold (fate_of w now)) (told_untold w now)
 
 -- ---- what is told of a picture
 
 abbrev told_with : Bool → Picture → Bool → ℕ → Follower → Follower
 told_with b p w now f =
-    cond b (with_line
-    (told_line p w (through now (put (told_as w now p) f.pictures)) now (noticed p f.line)) (with_told p w now f))
+    cond b (follower_with_line
+    (line_when_told p w (rate_through now (put (picture_told w now p) f.pictures)) now (noticed p f.line))
+    (with_told p w now f))
     (with_told p w now f)
 
 pictures_with : (b : Bool) (p : Picture) (w : Bool) (now : ℕ) (f : Follower)
-    → (told_with b p w now f).pictures ≡ put (told_as w now p) f.pictures
+    → (told_with b p w now f).pictures ≡ put (picture_told w now p) f.pictures
 pictures_with true p w now f = refl
 pictures_with false p w now f = refl
 
 -- it closes no other
 closed_of : (n : ℕ) (o : Option Picture) (w : Bool) (now : ℕ) (f : Follower) → Closed n f.pictures
-    → Closed n (told_of o w now f).pictures
+    → Closed n (follower_told_of o w now f).pictures
 closed_of n None w now f h = h
 closed_of n (Some p) w now f h =
     ap (open_of n) (pictures_with (leb f.line.since p.number) p w now f)
-    ∙ closed_put n (p.number % 256) (told_as w now p) f.pictures (told_not_open n w now p) h
+    ∙ closed_put n (p.number % 256) (picture_told w now p) f.pictures (told_not_open n w now p) h
 
-closed_after : (n : ℕ) (f : Follower) (e : Event) → IsOther n e → Closed n f.pictures → Closed n (after f e).pictures
+closed_after : (n : ℕ) (f : Follower) (e : FollowerEvent) → IsOther n e → Closed n f.pictures
+    → Closed n (follower_after f e).pictures
 closed_after n f (Sends number bytes packets now) i h =
     closed_put n (number % 256) (sent_picture number bytes packets now) f.pictures
     (first_false (eqb number n) true (ne_eqb number n i)) h
 closed_after n f (Tells number w now) i h = closed_of n (open_of number f.pictures) w now f h
 
-closed_all : (n : ℕ) (f : Follower) (es : List Event) → AllByRecursion (IsOther n) es → Closed n f.pictures
-    → Closed n (after_all f es).pictures
+closed_all : (n : ℕ) (f : Follower) (es : List FollowerEvent) → AllByRecursion (IsOther n) es → Closed n f.pictures
+    → Closed n (follower_after_all f es).pictures
 closed_all n f [] i h = h
-closed_all n f (e ∷ es) i h = closed_all n (after f e) es i.1 (closed_after n f e i.0 h)
+closed_all n f (e ∷ es) i h = closed_all n (follower_after f e) es i.1 (closed_after n f e i.0 h)
 
 told_nothing : (n : ℕ) (w : Bool) (now : ℕ) (f : Follower) → Closed n f.pictures → after_told n w now f ≡ f
-told_nothing n w now f h = ap (λ (o : Option Picture). told_of o w now f) h
+told_nothing n w now f h = ap (λ (o : Option Picture). follower_told_of o w now f) h
 
 -- ---- never sent
 
@@ -106,7 +108,7 @@ started_closed n b start =
 
 pub never_sent : NeverSent
 never_sent b start number now w es h =
-    told_nothing number w now (after_all (started b start) es)
+    told_nothing number w now (follower_after_all (started b start) es)
     (closed_all number (started b start) es h (started_closed number b start))
 
 -- ---- told twice
@@ -123,22 +125,22 @@ first_true false c e = cc
 opened : (n : ℕ) (s : Option Picture) (p : Picture) → open_at n s ≡ Some p → (s ≡ Some p) × (p.number ≡ n)
 opened n None p e = cc
 opened n (Some q) p e =
-    let s = some_of (is_open n q) q p e in
+    let s = some_of (is_untold_number n q) q p e in
     let t = eqb-true q.number n (first_true (eqb q.number n) (is_untold q.fate) s.0) in
     (ap (λ (x : Picture). let y : Option Picture = Some x in y) s.1, sym (ap (λ (x : Picture). x.number) s.1) ∙ t)
 
 closed_told : (n : ℕ) (w : Bool) (now : ℕ) (f : Follower) (o : Option Picture) → open_of n f.pictures ≡ o
-    → Closed n (told_of o w now f).pictures
+    → Closed n (follower_told_of o w now f).pictures
 closed_told n w now f None e = e
 closed_told n w now f (Some p) e =
     let s = opened n (slice_get f.pictures (n % 256)) p e in
     ap (open_of n) (pictures_with (leb f.line.since p.number) p w now f)
-    ∙ ap (λ (k : ℕ). open_of n (set f.pictures (k % 256) (told_as w now p))) s.1
-    ∙ ap (open_at n) (get_set_same f.pictures (n % 256) p (told_as w now p) s.0)
-    ∙ closed_one n (told_as w now p) (told_not_open n w now p)
+    ∙ ap (λ (k : ℕ). open_of n (set f.pictures (k % 256) (picture_told w now p))) s.1
+    ∙ ap (open_at n) (get_set_same f.pictures (n % 256) p (picture_told w now p) s.0)
+    ∙ closed_one n (picture_told w now p) (told_not_open n w now p)
 
 pub told_twice : ToldTwice
 told_twice f number now later w v es h =
-    told_nothing number v later (after_all (after_told number w now f) es)
+    told_nothing number v later (follower_after_all (after_told number w now f) es)
     (closed_all number (after_told number w now f) es h
     (closed_told number w now f (open_of number f.pictures) refl))

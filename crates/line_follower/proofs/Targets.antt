@@ -4,7 +4,7 @@ use Rattle.std.proofs.Math.Nat.{div-mul-le_self, mul-le-mul_left}
 use Rattle.std.proofs.lemmas.Nat.{le-div}
 use Rattle.line_follower.specs.declared.four.Four.{Four}
 use Rattle.line_follower.specs.declared.sizes.Sizes.{Sizes}
-use Rattle.line_follower.specs.Bucket.{IsTargetFor, four_level, level_of, quant_for}
+use Rattle.line_follower.specs.Bucket.{IsTargetFor, four_level, bucket_level, quant_for}
 
 pub record Between (quant finest most : ℕ) (s : Sizes) (low high : ℕ) : Type 0 where
   pub some : 1 ≤ low
@@ -18,8 +18,8 @@ four_less : (t u : ℕ) (f : Four) (a b : ℕ) → t ≤ u → b ≤ a → four_
 unfolding four_level
 four_less t u f a b h i = omega arith
 
-level_less : (t u : ℕ) (s : Sizes) → t ≤ u → level_of u s ≤ level_of t s
-unfolding level_of
+level_less : (t u : ℕ) (s : Sizes) → t ≤ u → bucket_level u s ≤ bucket_level t s
+unfolding bucket_level
 level_less t u s h =
     four_less t u s.newest _ _ h
     (four_less t u s.newer _ _ h (four_less t u s.older _ _ h (four_less t u s.oldest 0 0 h (omega arith))))
@@ -34,7 +34,7 @@ pub quant_less : (finest t u : ℕ) (s : Sizes) → 1 ≤ t → t ≤ u → quan
 unfolding quant_for
 quant_less finest t u s i h =
     let l = level_less t u s h in
-    let d = div_less (4 * level_of u s) (4 * level_of t s) t u i h (omega arith) in
+    let d = div_less (4 * bucket_level u s) (4 * bucket_level t s) t u i h (omega arith) in
     omega arith
 
 pub raises_low : (quant finest most : ℕ) (s : Sizes) (low high middle : ℕ) → Between quant finest most s low high

@@ -2,18 +2,18 @@
 use Rattle.std.specs.Prelude.{◌≢◌, ℕ, ◌+◌, ◌-◌, ◌*◌, ◌/◌, ◌<◌, ◌≤◌, min}
 use Rattle.line_follower.specs.declared.four.Four.{Four}
 use Rattle.line_follower.specs.declared.sizes.Sizes.{Sizes}
-use Rattle.line_follower.specs.Numbers.{moved, none}
+use Rattle.line_follower.specs.Numbers.{four_moved, four_zeros}
 
 abbrev pub no_sizes : Sizes
-no_sizes = record { newest = none; newer = none; older = none; oldest = none }
+no_sizes = record { newest = four_zeros; newer = four_zeros; older = four_zeros; oldest = four_zeros }
 
 abbrev pub sizes_with : ℕ → Sizes → Sizes
 sizes_with bytes s =
     record {
-      newest = moved bytes s.newest;
-      newer = moved s.newest.fourth s.newer;
-      older = moved s.newer.fourth s.older;
-      oldest = moved s.older.fourth s.oldest;
+      newest = four_moved bytes s.newest;
+      newer = four_moved s.newest.fourth s.newer;
+      older = four_moved s.newer.fourth s.older;
+      oldest = four_moved s.older.fourth s.oldest;
     }
 
 -- a picture pours its bytes into a bucket, and the target runs out
@@ -26,15 +26,15 @@ four_level target level f =
     poured target (poured target (poured target (poured target level f.fourth) f.third) f.second)
     f.first
 
-unfoldable pub level_of : ℕ → Sizes → ℕ
-level_of target s =
+unfoldable pub bucket_level : ℕ → Sizes → ℕ
+bucket_level target s =
     four_level target
     (four_level target (four_level target (four_level target 0 s.oldest) s.older) s.newer)
     s.newest
 
 -- four steps coarser than the finest for each target of bytes in the bucket
 unfoldable pub quant_for : ℕ → ℕ → Sizes → ℕ
-quant_for finest target s = min (finest + 4 * level_of target s / target) 31
+quant_for finest target s = min (finest + 4 * bucket_level target s / target) 31
 
 -- The greatest target up to a limit that gives at least this quantiser, or 1.
 pub record IsTargetFor (quant finest most : ℕ) (s : Sizes) (target : ℕ) : Type 0 where

@@ -8,31 +8,31 @@ use Rattle.line_follower.specs.declared.picture.Picture.{Picture}
 use Rattle.line_follower.specs.declared.trend.Trend.{Trend}
 use Rattle.line_follower.specs.declared.trend.Slope.TheVariants as slopes
 use Rattle.line_follower.specs.declared.trips.Thirds.{Thirds}
-use Rattle.line_follower.specs.Following.{after_sent, after_told, all_bytes, has_room, is_held, started}
-use Rattle.line_follower.specs.Losing.{carried_by, counted, is_judged, latest_with}
+use Rattle.line_follower.specs.Following.{follower_after_sent, after_told, all_bytes, has_room, is_frame_held, started}
+use Rattle.line_follower.specs.Losing.{carried_by, losses_counted, is_judged, latest_with}
 use Rattle.line_follower.specs.Numbers.{numbers}
-use Rattle.line_follower.specs.Pacing.{rate_of}
-use Rattle.line_follower.specs.Rating.{heard, is_choked, told_line}
-use Rattle.line_follower.specs.Table.{through, trip_of}
+use Rattle.line_follower.specs.Pacing.{rate_per_second}
+use Rattle.line_follower.specs.Rating.{line_heard, is_choked, line_when_told}
+use Rattle.line_follower.specs.Table.{rate_through, trip_of}
 use Rattle.line_follower.specs.Trending.{is_down, is_up, slope_of, thirds_with}
 
 -- a picture goes out, or a message about one comes
-pub data Event : Type 0 where
-  Sends : (number bytes packets now : ℕ) → Event
-  Tells : (number : ℕ) (is_whole : Bool) (now : ℕ) → Event
+pub data FollowerEvent : Type 0 where
+  Sends : (number bytes packets now : ℕ) → FollowerEvent
+  Tells : (number : ℕ) (is_whole : Bool) (now : ℕ) → FollowerEvent
 
-abbrev pub after : Follower → Event → Follower
-after f (Sends number bytes packets now) = after_sent number bytes packets now f
-after f (Tells number is_whole now) = after_told number is_whole now f
+abbrev pub follower_after : Follower → FollowerEvent → Follower
+follower_after f (Sends number bytes packets now) = follower_after_sent number bytes packets now f
+follower_after f (Tells number is_whole now) = after_told number is_whole now f
 
 -- the oldest first
-abbrev pub after_all : Follower → List Event → Follower
-after_all f [] = f
-after_all f (e ∷ es) = after_all (after f e) es
+abbrev pub follower_after_all : Follower → List FollowerEvent → Follower
+follower_after_all f [] = f
+follower_after_all f (e ∷ es) = follower_after_all (follower_after f e) es
 
 -- ---- the rate's bounds
 
-pub record IsBetween (least most : ℕ) (l : Line) : Type 0 where
+pub record HasBounds (least most : ℕ) (l : Line) : Type 0 where
   pub least_is : l.least ≡ least
   pub most_is : l.most ≡ most
   pub above : least ≤ l.rate
@@ -41,11 +41,11 @@ pub record IsBetween (least most : ℕ) (l : Line) : Type 0 where
 -- Whatever is sent and told, the rate stays between the least and the most.
 abbrev pub StaysBetween : Type 0
 StaysBetween =
-    (b : Bounds) (now : ℕ) (es : List Event)
-    → rate_of b.least b.period ≤ rate_of b.first b.period
-    → rate_of b.first b.period ≤ rate_of b.most b.period
-    → IsBetween (rate_of b.least b.period) (rate_of b.most b.period)
-    (after_all (started b now) es).line
+    (b : Bounds) (now : ℕ) (es : List FollowerEvent)
+    → rate_per_second b.least b.period ≤ rate_per_second b.first b.period
+    → rate_per_second b.first b.period ≤ rate_per_second b.most b.period
+    → HasBounds (rate_per_second b.least b.period) (rate_per_second b.most b.period)
+    (follower_after_all (started b now) es).line
 
 -- A message makes the rate no greater than 1.5 times what came whole in the last half second, with
 -- what it tells of: above that it isn't greater than before.
@@ -53,7 +53,7 @@ abbrev pub NeverBeyond : Type 0
 NeverBeyond =
     (f : Follower) (number : ℕ) (is_whole : Bool) (now : ℕ) → f.line.least ≤ f.line.rate
     → (after_told number is_whole now f).line.rate
-    ≤ max f.line.rate (3 * through now (after_told number is_whole now f).pictures / 2)
+    ≤ max f.line.rate (3 * rate_through now (after_told number is_whole now f).pictures / 2)
 
 -- ---- what is owed
 
@@ -62,28 +62,28 @@ NeverBeyond =
 abbrev pub OwesLittle : Type 0
 OwesLittle =
     (f : Follower) (number bytes packets now : ℕ) → has_room now f ≡ true
-    → (after_sent number bytes packets now f).line.debt.owed
+    → (follower_after_sent number bytes packets now f).line.debt.owed
     ≤ f.line.rate * 200000000 + all_bytes bytes packets * 1000000000
 
 -- ---- what isn't told yet
 
 -- Where no picture went out for 200 ms, nothing that is waited for holds the next one.
 abbrev pub HeldBriefly : Type 0
-HeldBriefly = (f : Follower) (now : ℕ) → 200000000 ≤ now - f.line.out → is_held now f ≡ false
+HeldBriefly = (f : Follower) (now : ℕ) → 200000000 ≤ now - f.line.out → is_frame_held now f ≡ false
 
 -- A line is choked with the third late picture alone.
 abbrev pub ChokedThrice : Type 0
 ChokedThrice =
-    (p : Picture) (is_whole : Bool) (through now : ℕ) (l : Line)
-    → is_choked through (heard p is_whole now l) ≡ true → 2 ≤ l.late.count
+    (p : Picture) (is_whole : Bool) (rate_through now : ℕ) (l : Line)
+    → is_choked rate_through (line_heard p is_whole now l) ≡ true → 2 ≤ l.late.count
 
 -- What a choked line has left, where a picture isn't whole: no more than a quarter of the rate, or the
 -- least; and no picture goes out for 200 ms, so that what waits on it goes first.
 abbrev pub ChokedGivesWay : Type 0
 ChokedGivesWay =
-    (p : Picture) (through now : ℕ) (l : Line)
-    → is_choked through (heard p false now l) ≡ true
-    → let m = told_line p false through now l in
+    (p : Picture) (rate_through now : ℕ) (l : Line)
+    → is_choked rate_through (line_heard p false now l) ≡ true
+    → let m = line_when_told p false rate_through now l in
     (m.rate ≤ max (l.rate * 2 / 8) l.least) × (m.paused ≡ min (now + 200000000) 18446744073709551615)
 
 -- ---- round trips
@@ -116,32 +116,32 @@ TwoInARow =
 -- pictures were lost, these may shrink it.)
 abbrev pub LateAlone : Type 0
 LateAlone =
-    (p : Picture) (through now low high place : ℕ) (l : Line)
+    (p : Picture) (rate_through now low high place : ℕ) (l : Line)
     → high ≤ low + l.trend.threshold.micros
     → AllBut low high place (trips_of (thirds_with l.rate (trip_of now p) p.bytes l.trend))
     → carried_by (latest_with p.packets true l.latest) ≡ None
-    → is_judged now (counted p.packets true l.losses) ≡ false
-    → l.rate ≤ (told_line p true through now l).rate
+    → is_judged now (losses_counted p.packets true l.losses) ≡ false
+    → l.rate ≤ (line_when_told p true rate_through now l).rate
 
 -- ---- messages that say nothing
 
 -- no picture of this number goes out
-abbrev pub IsOther : ℕ → Event → Type 0
+abbrev pub IsOther : ℕ → FollowerEvent → Type 0
 IsOther number (Sends other bytes packets now) = other ≢ number
 IsOther number (Tells other is_whole now) = Unit {0}
 
 -- A message about a picture that wasn't sent changes nothing.
 abbrev pub NeverSent : Type 0
 NeverSent =
-    (b : Bounds) (start number now : ℕ) (is_whole : Bool) (es : List Event)
+    (b : Bounds) (start number now : ℕ) (is_whole : Bool) (es : List FollowerEvent)
     → AllByRecursion (IsOther number) es
-    → after_told number is_whole now (after_all (started b start) es)
-    ≡ after_all (started b start) es
+    → after_told number is_whole now (follower_after_all (started b start) es)
+    ≡ follower_after_all (started b start) es
 
 -- Nor does a second one about the same.
 abbrev pub ToldTwice : Type 0
 ToldTwice =
-    (f : Follower) (number now later : ℕ) (is_whole is_whole_later : Bool) (es : List Event)
+    (f : Follower) (number now later : ℕ) (is_whole is_whole_later : Bool) (es : List FollowerEvent)
     → AllByRecursion (IsOther number) es
-    → let g = after_all (after_told number is_whole now f) es in
+    → let g = follower_after_all (after_told number is_whole now f) es in
     after_told number is_whole_later later g ≡ g

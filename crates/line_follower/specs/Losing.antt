@@ -2,7 +2,7 @@
 use Rattle.std.specs.Prelude.{ℕ, ◌+◌, ◌-◌, ◌*◌, ◌/◌, ◌==◌, min, nat_le, nat_lt, Bool, true, false, Option, Some, None, if◌then◌else◌}
 use Rattle.line_follower.specs.declared.losses.Losses.{Losses}
 use Rattle.line_follower.specs.declared.latest.Latest.{Latest}
-use Rattle.line_follower.specs.Numbers.{moved, none, total}
+use Rattle.line_follower.specs.Numbers.{four_moved, four_zeros, total_of_four}
 
 -- ---- the share of packets that is lost
 
@@ -13,8 +13,8 @@ abbrev pub cleared_losses : ℕ → Losses → Losses
 cleared_losses now l = record { began = now; packets = 0; lost = 0; share = l.share }
 
 -- One picture more. Of one that isn't whole at least one packet was lost. Counts stay below 2^32.
-abbrev pub counted : ℕ → Bool → Losses → Losses
-counted packets is_whole l =
+abbrev pub losses_counted : ℕ → Bool → Losses → Losses
+losses_counted packets is_whole l =
     record {
       began = l.began;
       packets = min (l.packets + packets) 4294967295;
@@ -33,7 +33,7 @@ share_of lost packets = min (10000 * lost / packets) 10000
 
 abbrev pub losses_after : ℕ → Bool → ℕ → Losses → Losses
 losses_after packets is_whole now l =
-    let m = counted packets is_whole l in
+    let m = losses_counted packets is_whole l in
     if is_judged now m
     then record { began = now; packets = 0; lost = 0; share = share_of m.lost m.packets }
     else m
@@ -42,7 +42,7 @@ losses_after packets is_whole now l =
 
 abbrev pub no_latest : Latest
 no_latest =
-    record { count = 0; newer = none; older = none; newer_whole = none; older_whole = none }
+    record { count = 0; newer = four_zeros; older = four_zeros; newer_whole = four_zeros; older_whole = four_zeros }
 
 abbrev pub whole_number : Bool → ℕ
 whole_number true = 1
@@ -52,10 +52,10 @@ abbrev pub latest_with : ℕ → Bool → Latest → Latest
 latest_with packets is_whole l =
     record {
       count = if nat_lt l.count 8 then l.count + 1 else 8;
-      newer = moved packets l.newer;
-      older = moved l.newer.fourth l.older;
-      newer_whole = moved (whole_number is_whole) l.newer_whole;
-      older_whole = moved l.newer_whole.fourth l.older_whole;
+      newer = four_moved packets l.newer;
+      older = four_moved l.newer.fourth l.older;
+      newer_whole = four_moved (whole_number is_whole) l.newer_whole;
+      older_whole = four_moved l.newer_whole.fourth l.older_whole;
     }
 
 -- The eighths of the rate that come through, of eight pictures of which so many are whole, with so
@@ -73,5 +73,6 @@ eighths_of whole packets =
 abbrev pub carried_by : Latest → Option ℕ
 carried_by l =
     if l.count == 8
-    then eighths_of (total l.newer_whole + total l.older_whole) (total l.newer + total l.older)
+    then eighths_of (total_of_four l.newer_whole + total_of_four l.older_whole)
+    (total_of_four l.newer + total_of_four l.older)
     else None

@@ -9,17 +9,17 @@ abbrev pub first_trip : ℕ → LeastTrip
 first_trip now = record { began = now; before = 4294967295; least = 4294967295 }
 
 -- its five seconds are over
-abbrev pub is_old : ℕ → LeastTrip → Bool
-is_old now l = nat_lt 5000000000 (now - l.began)
+abbrev pub is_trip_old : ℕ → LeastTrip → Bool
+is_trip_old now l = nat_lt 5000000000 (now - l.began)
 
 abbrev pub trips_after : ℕ → ℕ → LeastTrip → LeastTrip
 trips_after trip now l =
-    if is_old now l
+    if is_trip_old now l
     then record { began = now; before = l.least; least = trip }
     else record { began = l.began; before = l.before; least = min l.least trip }
 
-abbrev pub least_of : LeastTrip → ℕ
-least_of l = min l.before l.least
+abbrev pub least_trip_of : LeastTrip → ℕ
+least_trip_of l = min l.before l.least
 
 -- ---- what was sent beyond the rate, in billionths of a byte
 
@@ -30,8 +30,8 @@ first_debt now = record { owed = 0; at = now }
 abbrev pub drained : ℕ → ℕ → Debt → Debt
 drained rate now d = record { owed = d.owed - (now - d.at) * rate; at = now }
 
-abbrev pub with_bytes : ℕ → Debt → Debt
-with_bytes bytes d =
+abbrev pub debt_with : ℕ → Debt → Debt
+debt_with bytes d =
     record { owed = min (d.owed + bytes * 1000000000) 18446744073709551615; at = d.at }
 
 -- a fifth of a second of the rate at most

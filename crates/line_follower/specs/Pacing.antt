@@ -5,8 +5,8 @@ use Rattle.line_follower.specs.declared.pace.Bounds.{Bounds}
 use Rattle.line_follower.specs.declared.pace.Pace.{Pace}
 
 -- so many bytes a picture as bytes a second, below 2^32
-abbrev pub rate_of : ℕ → ℕ → ℕ
-rate_of bytes period = min (bytes * 1000000000 / period) 4294967295
+abbrev pub rate_per_second : ℕ → ℕ → ℕ
+rate_per_second bytes period = min (bytes * 1000000000 / period) 4294967295
 
 abbrev pub size_at : ℕ → ℕ → ℕ
 size_at rate period = rate * period / 1000000000
@@ -35,14 +35,14 @@ abbrev pub quant_by : ℕ → ℕ → ℕ → ℕ → ℕ
 quant_by quant s w finest = max (min (quant * (3 * s + w) / (s + 3 * w)) 7936) (256 * finest)
 
 -- How far a size is off what was wanted counts up to twice, or half.
-abbrev pub quant_after : ℕ → ℕ → ℕ → ℕ → ℕ
-quant_after quant bytes wanted finest =
+abbrev pub quant_by_size : ℕ → ℕ → ℕ → ℕ → ℕ
+quant_by_size quant bytes wanted finest =
     let w = max wanted 1 in
     quant_by quant (min (max bytes (w / 2)) (2 * w)) w finest
 
 -- after a fall of the rate, which counts up to a quarter
-abbrev pub quant_at : ℕ → ℕ → ℕ → ℕ → ℕ
-quant_at quant before rate finest =
+abbrev pub quant_by_rate : ℕ → ℕ → ℕ → ℕ → ℕ
+quant_by_rate quant before rate finest =
     let w = max rate 1 in
     quant_by quant (min before (4 * w)) w finest
 
@@ -50,7 +50,7 @@ abbrev pub pace_after : ℕ → ℕ → ℕ → Pace → Pace
 pace_after bytes packets wanted p =
     record {
       bounds = p.bounds;
-      quant = quant_after p.quant bytes wanted p.bounds.finest;
+      quant = quant_by_size p.quant bytes wanted p.bounds.finest;
       heads = heads_after p.heads packets;
       sizes = sizes_with bytes p.sizes;
     }
@@ -59,7 +59,7 @@ pace_after bytes packets wanted p =
 abbrev pub pace_at : ℕ → ℕ → Pace → Pace
 pace_at before rate p =
     if nat_lt rate before
-    then record p { quant = quant_at p.quant before rate p.bounds.finest }
+    then record p { quant = quant_by_rate p.quant before rate p.bounds.finest }
     else p
 
 abbrev pub nearest_quant : Pace → ℕ

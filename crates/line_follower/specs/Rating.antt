@@ -9,13 +9,13 @@ use Rattle.line_follower.specs.declared.picture.Picture.{Picture}
 use Rattle.line_follower.specs.declared.trend.Slope.{Slope}
 use Rattle.line_follower.specs.declared.trend.Slope.TheVariants as slopes
 use Rattle.line_follower.specs.Choking.{lateness_with, no_lateness}
-use Rattle.line_follower.specs.Losing.{carried_by, cleared_losses, counted, first_losses, is_judged, latest_with, losses_after, no_latest}
-use Rattle.line_follower.specs.Owing.{capped, drained, first_debt, first_trip, least_of, trips_after, with_bytes, with_queue}
+use Rattle.line_follower.specs.Losing.{carried_by, cleared_losses, losses_counted, first_losses, is_judged, latest_with, losses_after, no_latest}
+use Rattle.line_follower.specs.Owing.{capped, drained, first_debt, first_trip, least_trip_of, trips_after, debt_with, with_queue}
 use Rattle.line_follower.specs.Table.{trip_of}
 use Rattle.line_follower.specs.Trending.{cleared_trend, first_trend, slope_of, trend_after}
 
-abbrev pub first_line : ℕ → ℕ → ℕ → ℕ → Line
-first_line rate least most now =
+abbrev pub line_at_first : ℕ → ℕ → ℕ → ℕ → Line
+line_at_first rate least most now =
     record {
       rate = rate;
       least = least;
@@ -39,7 +39,7 @@ first_line rate least most now =
 
 abbrev pub sent_line : ℕ → ℕ → ℕ → Line → Line
 sent_line number bytes now l =
-    record l { next = number + 1; out = now; debt = with_bytes bytes (drained l.rate now l.debt) }
+    record l { next = number + 1; out = now; debt = debt_with bytes (drained l.rate now l.debt) }
 
 -- ---- what is told
 
@@ -75,11 +75,11 @@ noted p is_whole now l =
     record l {
       losses = losses_after p.packets is_whole now l.losses;
       latest = latest_with p.packets is_whole l.latest;
-      late = lateness_with (least_of l.least_trip) p.at (trip_of now p) l.late;
+      late = lateness_with (least_trip_of l.least_trip) p.at (trip_of now p) l.late;
     }
 
-abbrev pub heard : Picture → Bool → ℕ → Line → Line
-heard p is_whole now l =
+abbrev pub line_heard : Picture → Bool → ℕ → Line → Line
+line_heard p is_whole now l =
     if is_whole then tripped p now (noted p is_whole now l) else noted p is_whole now l
 
 abbrev pub slope_with : Picture → Bool → ℕ → Line → Slope
@@ -100,13 +100,13 @@ abbrev pub is_lossy : Line → Bool
 is_lossy l = if nat_le l.losses.share 1000 then false else not (is_fair l)
 
 -- nothing waits on it
-abbrev pub is_empty : Line → Bool
-is_empty l = nat_lt l.trip (least_of l.least_trip + 20000)
+abbrev pub is_line_empty : Line → Bool
+is_line_empty l = nat_lt l.trip (least_trip_of l.least_trip + 20000)
 
 -- A line on which nothing waits isn't full: its losses, up to a tenth, are its own.
 abbrev pub is_fine : Line → Bool
 is_fine l =
-    if nat_le l.losses.share (if is_empty l then 1000 else 200) then true else is_fair l
+    if nat_le l.losses.share (if is_line_empty l then 1000 else 200) then true else is_fair l
 
 -- a rate that isn't used doesn't grow
 abbrev pub may_grow : ℕ → Line → Bool
@@ -138,15 +138,15 @@ abbrev pub is_choked : ℕ → Line → Bool
 is_choked through l = if nat_le 3 l.late.count then nat_lt (2 * through) l.rate else false
 
 -- The eighths that are left: two where the line is choked and a picture isn't whole.
-abbrev pub cut_of : Bool → ℕ → Line → Option ℕ
-cut_of is_whole through l =
+abbrev pub eighths_left : Bool → ℕ → Line → Option ℕ
+eighths_left is_whole through l =
     if is_whole then carried_by l.latest
     else if is_choked through l then Some 2
     else carried_by l.latest
 
 abbrev pub action_of : Bool → Slope → Bool → ℕ → Line → Action
 action_of is_whole slope is_judged through l =
-    cutting_action (cut_of is_whole through l) slope is_judged through l
+    cutting_action (eighths_left is_whole through l) slope is_judged through l
 
 -- Down to this rate, if it is less, but not below the least. Only what follows tells of it.
 abbrev pub shrunk_to : ℕ → Line → ℕ
@@ -174,16 +174,16 @@ is_near rate (Some full) = if nat_lt (4 * full) (5 * rate) then nat_lt (5 * rate
 abbrev pub speed_of : ℕ → Option ℕ → ℕ
 speed_of rate full = if is_near rate full then 49 else 223
 
-abbrev pub more_of : ℕ → ℕ → ℕ → ℕ
-more_of rate speed micros = rate + rate * speed * micros / 1000000000
+abbrev pub rate_grown : ℕ → ℕ → ℕ → ℕ
+rate_grown rate speed micros = rate + rate * speed * micros / 1000000000
 
 -- It grows no further than the most, and than 1.5 times what comes through.
-abbrev pub limited : ℕ → ℕ → ℕ → ℕ → ℕ
-limited rate more most through = max (min more (min most (3 * through / 2))) rate
+abbrev pub limited_rate : ℕ → ℕ → ℕ → ℕ → ℕ
+limited_rate rate more most through = max (min more (min most (3 * through / 2))) rate
 
 abbrev pub grown_to : ℕ → ℕ → Line → ℕ
 grown_to through now l =
-    limited l.rate (more_of l.rate (speed_of l.rate l.full) (min (now - l.grown) 1000000000 / 1000))
+    limited_rate l.rate (rate_grown l.rate (speed_of l.rate l.full) (min (now - l.grown) 1000000000 / 1000))
     l.most through
 
 abbrev pub grown : ℕ → ℕ → Line → Line
@@ -191,7 +191,7 @@ grown through now l = record l { rate = grown_to through now l; debt = drained l
 
 -- what waits on a line that was full
 abbrev pub queued : Line → ℕ
-queued l = l.trip - least_of l.least_trip
+queued l = l.trip - least_trip_of l.least_trip
 
 -- Where most packets are lost, or the line is choked, no picture goes out for 200 ms. A full line gets
 -- 85 % of what comes through, but no less than 70 % of the rate; and what waits on it is owed. Where
@@ -208,17 +208,17 @@ after_action actions.Full through now l =
     record s {
       full = Some through;
       debt = with_queue (queued l) s.rate s.debt;
-      drains = Some (drain_of (least_of l.least_trip) l.trip now);
+      drains = Some (drain_of (least_trip_of l.least_trip) l.trip now);
     }
 after_action actions.Grow through now l = grown through now l
 after_action actions.Keep through now l = l
 
-abbrev pub turned : Action → ℕ → ℕ → Line → Line
-turned action through now l = record (after_action action through now l) { grown = now }
+abbrev pub line_turned : Action → ℕ → ℕ → Line → Line
+line_turned action through now l = record (after_action action through now l) { grown = now }
 
 -- What becomes of a line where a picture is told of, and so much comes through.
-abbrev pub told_line : Picture → Bool → ℕ → ℕ → Line → Line
-told_line p is_whole through now l =
-    let h = heard p is_whole now l in
-    turned (action_of is_whole (slope_with p is_whole now l)
-    (is_judged now (counted p.packets is_whole l.losses)) through h) through now h
+abbrev pub line_when_told : Picture → Bool → ℕ → ℕ → Line → Line
+line_when_told p is_whole through now l =
+    let h = line_heard p is_whole now l in
+    line_turned (action_of is_whole (slope_with p is_whole now l)
+    (is_judged now (losses_counted p.packets is_whole l.losses)) through h) through now h

@@ -13,15 +13,15 @@ is_untold fates.Lost = false
 is_untold (fates.Whole at) = false
 
 -- it has this number, and nothing was told of it yet
-abbrev pub is_open : ℕ → Picture → Bool
-is_open number p = if p.number == number then is_untold p.fate else false
+abbrev pub is_untold_number : ℕ → Picture → Bool
+is_untold_number number p = if p.number == number then is_untold p.fate else false
 
 abbrev pub fate_of : Bool → ℕ → Fate
 fate_of true now = fates.Whole now
 fate_of false now = fates.Lost
 
-abbrev pub told_as : Bool → ℕ → Picture → Picture
-told_as is_whole now p =
+abbrev pub picture_told : Bool → ℕ → Picture → Picture
+picture_told is_whole now p =
     record {
       number = p.number;
       bytes = p.bytes;
@@ -40,21 +40,21 @@ came_by now bytes fates.Lost = 0
 came_by now bytes (fates.Whole at) = if nat_le (now - at) 500000000 then bytes else 0
 
 -- its bytes, where it was told in the last half second that they came whole
-abbrev pub came_of : ℕ → Picture → ℕ
-came_of now p = came_by now p.bytes p.fate
+abbrev pub came_at : ℕ → Picture → ℕ
+came_at now p = came_by now p.bytes p.fate
 
 -- below 2^32
 abbrev pub doubled : ℕ → ℕ
 doubled sum = min (2 * sum) 4294967295
 
 -- Bytes a second that came whole: twice those of the last half second.
-abbrev pub through : ℕ → List Picture → ℕ
-through now pictures = doubled (sum_by (came_of now) pictures)
+abbrev pub rate_through : ℕ → List Picture → ℕ
+rate_through now pictures = doubled (sum_by (came_at now) pictures)
 
 -- The picture of this number of which nothing was told yet, if it is among the latest 256.
 abbrev pub open_at : ℕ → Option Picture → Option Picture
 open_at number None = None
-open_at number (Some p) = if is_open number p then Some p else None
+open_at number (Some p) = if is_untold_number number p then Some p else None
 
 abbrev pub open_of : ℕ → List Picture → Option Picture
 open_of number pictures = open_at number (slice_get pictures (number % 256))

@@ -8,7 +8,7 @@ use Rattle.line_follower.specs.declared.threshold.Threshold.{Threshold}
 use Rattle.line_follower.specs.declared.trend.Trend.{Trend}
 use Rattle.line_follower.specs.declared.trend.Slope.{Slope}
 use Rattle.line_follower.specs.declared.trend.Slope.TheVariants as slopes
-use Rattle.line_follower.specs.Numbers.{is_above, middle_two, moved, none}
+use Rattle.line_follower.specs.Numbers.{is_above, middle_two, four_moved, four_zeros}
 
 -- ---- the latest twelve
 
@@ -16,28 +16,28 @@ abbrev pub no_trips : Trips
 no_trips =
     record {
       count = 0;
-      newest = none;
-      middle = none;
-      oldest = none;
-      newest_bytes = none;
-      middle_bytes = none;
-      oldest_bytes = none;
+      newest = four_zeros;
+      middle = four_zeros;
+      oldest = four_zeros;
+      newest_bytes = four_zeros;
+      middle_bytes = four_zeros;
+      oldest_bytes = four_zeros;
     }
 
 abbrev pub trips_with : ℕ → ℕ → Trips → Trips
 trips_with trip bytes t =
     record {
       count = if nat_lt t.count 12 then t.count + 1 else 12;
-      newest = moved trip t.newest;
-      middle = moved t.newest.fourth t.middle;
-      oldest = moved t.middle.fourth t.oldest;
-      newest_bytes = moved bytes t.newest_bytes;
-      middle_bytes = moved t.newest_bytes.fourth t.middle_bytes;
-      oldest_bytes = moved t.middle_bytes.fourth t.oldest_bytes;
+      newest = four_moved trip t.newest;
+      middle = four_moved t.newest.fourth t.middle;
+      oldest = four_moved t.middle.fourth t.oldest;
+      newest_bytes = four_moved bytes t.newest_bytes;
+      middle_bytes = four_moved t.newest_bytes.fourth t.middle_bytes;
+      oldest_bytes = four_moved t.middle_bytes.fourth t.oldest_bytes;
     }
 
-abbrev pub is_full : Trips → Bool
-is_full t = t.count == 12
+abbrev pub are_trips_full : Trips → Bool
+are_trips_full t = t.count == 12
 
 -- A larger picture takes longer: what its own bytes take at this rate, up to a second, is taken off.
 -- A second is added, so that none is negative; and each is below 2^32.
@@ -135,7 +135,7 @@ change_of t = max (rise_of t) (fall_of t)
 
 abbrev pub judged_trend : Thirds → Trips → ℕ → Trend → Trend
 judged_trend thirds trips now t =
-    if is_full trips
+    if are_trips_full trips
     then record {
       trips = trips;
       threshold = threshold_after (change_of thirds) now t.threshold;
@@ -164,4 +164,4 @@ slope_by is_judged thirds t =
 
 abbrev pub slope_of : ℕ → ℕ → ℕ → Trend → Slope
 slope_of rate trip bytes t =
-    slope_by (is_full (trips_with trip bytes t.trips)) (thirds_with rate trip bytes t) t
+    slope_by (are_trips_full (trips_with trip bytes t.trips)) (thirds_with rate trip bytes t) t

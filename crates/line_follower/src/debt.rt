@@ -1,6 +1,6 @@
 //! What was sent beyond the rate.
 ghost use Rattle.std.specs.Prelude.{◌≡◌};
-ghost use Rattle.line_follower.specs.Owing.{bytes_owed, capped, drained, first_debt, is_small, with_bytes, with_queue};
+ghost use Rattle.line_follower.specs.Owing.{bytes_owed, capped, drained, first_debt, is_small, debt_with, with_queue};
 
 // A billionth of a byte a nanosecond is a byte a second.
 const BYTE: u64 = 1_000_000_000;
@@ -38,7 +38,7 @@ impl Debt {
 
     /// With so many bytes more.
     pub fn with(&self, bytes: u32) -> Debt
-        ensures { result ≡ with_bytes bytes self.now }
+        ensures { result ≡ debt_with bytes self.now }
     {
         Debt {
             owed: self.owed.saturating_add(bytes as u64 * BYTE),

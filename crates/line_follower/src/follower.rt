@@ -1,7 +1,7 @@
 //! What follows a line.
 ghost use Rattle.std.specs.Prelude.{◌≡◌, ◌<◌, ◌≤◌};
 ghost use Rattle.line_follower.specs.Bucket.{IsTargetFor};
-ghost use Rattle.line_follower.specs.Following.{after_sent, after_told, followed, has_room, is_held, size_of, started, told_by, wanted_by, with_line, with_told};
+ghost use Rattle.line_follower.specs.Following.{follower_after_sent, after_told, followed, has_room, is_frame_held, carried_size, started, follower_told_by, wanted_by, follower_with_line, with_told};
 ghost use Rattle.line_follower.specs.Table.{open_of};
 ghost use Rattle.line_follower.specs.Pacing.{nearest_quant};
 
@@ -37,7 +37,7 @@ impl Follower {
 
     /// A picture went out, with so many bytes in so many packets.
     pub fn sent(&mut self, number: u32, bytes: u32, packets: u16, now: u64)
-        ensures { self.new ≡ after_sent number bytes packets now self.old }
+        ensures { self.new ≡ follower_after_sent number bytes packets now self.old }
     {
         let wanted = self.wanted();
         let all = bytes.saturating_add(pace::heads_of(packets));
@@ -65,7 +65,7 @@ impl Follower {
     }
 
     fn told_by(&mut self, picture: &Picture, is_whole: bool, now: u64)
-        ensures { self.new ≡ told_by picture.now is_whole now self.old }
+        ensures { self.new ≡ follower_told_by picture.now is_whole now self.old }
     {
         if self.line.since <= picture.number as u64 {
             self.notice(picture, is_whole, now);
@@ -93,7 +93,7 @@ impl Follower {
 
     // The line is this one now.
     fn go_on(&mut self, line: &Line)
-        ensures { self.new ≡ with_line line.now self.old }
+        ensures { self.new ≡ follower_with_line line.now self.old }
     {
         self.pace = self.pace.at(self.line.rate, line.rate);
         self.line = *line;
@@ -119,7 +119,7 @@ impl Follower {
 
     // Whether what waits on the line is to go first.
     fn is_held(&self, now: u64) -> bool
-        ensures { result ≡ is_held now self.now }
+        ensures { result ≡ is_frame_held now self.now }
     {
         match table::open(&self.pictures, self.line.untold) {
             None => false,
@@ -136,7 +136,7 @@ impl Follower {
 
     /// Bytes a picture that the line carries.
     pub fn size(&self) -> u64
-        ensures { result ≡ size_of self.now }
+        ensures { result ≡ carried_size self.now }
     {
         self.pace.size(self.line.rate)
     }

@@ -1,6 +1,6 @@
 //! Four numbers of pictures in a row.
 ghost use Rattle.std.specs.Prelude.{◌≡◌, ◌<◌, ◌^◌};
-ghost use Rattle.line_follower.specs.Numbers.{greatest, is_above, least, middle_two, moved, none, total};
+ghost use Rattle.line_follower.specs.Numbers.{greatest_of_four, is_above, least_of_four, middle_two, four_moved, four_zeros, total_of_four};
 
 /// Numbers of four pictures in a row, the newest first.
 #[derive(Clone, Copy)]
@@ -14,7 +14,7 @@ pub struct Four {
 impl Four {
     /// Four zeros.
     pub fn none() -> Four
-        ensures { result ≡ none }
+        ensures { result ≡ four_zeros }
     {
         Four {
             first: 0,
@@ -26,7 +26,7 @@ impl Four {
 
     /// One picture later: this number is the newest, and the oldest is gone.
     pub fn with(&self, number: u32) -> Four
-        ensures { result ≡ moved number self.now }
+        ensures { result ≡ four_moved number self.now }
     {
         Four {
             first: number,
@@ -38,21 +38,21 @@ impl Four {
 
     /// The least of them.
     pub fn least(&self) -> u32
-        ensures { result ≡ least self.now }
+        ensures { result ≡ least_of_four self.now }
     {
         self.first.min(self.second.min(self.third.min(self.fourth)))
     }
 
     /// The greatest of them.
     pub fn greatest(&self) -> u32
-        ensures { result ≡ greatest self.now }
+        ensures { result ≡ greatest_of_four self.now }
     {
         self.first.max(self.second.max(self.third.max(self.fourth)))
     }
 
     /// Their sum.
     pub fn total(&self) -> u64
-        ensures value { result ≡ total self.now }
+        ensures value { result ≡ total_of_four self.now }
         ensures small { result < 2 ^ 34 }
     {
         self.first as u64 + (self.second as u64 + (self.third as u64 + self.fourth as u64))

@@ -1,6 +1,6 @@
 //! The least round trip.
 ghost use Rattle.std.specs.Prelude.{◌≡◌};
-ghost use Rattle.line_follower.specs.Owing.{first_trip, is_old, least_of, trips_after};
+ghost use Rattle.line_follower.specs.Owing.{first_trip, is_trip_old, least_trip_of, trips_after};
 
 const FIVE_SECONDS: u64 = 5_000_000_000;
 
@@ -28,7 +28,7 @@ impl LeastTrip {
     }
 
     fn is_old(&self, now: u64) -> bool
-        ensures { result ≡ is_old now self.now }
+        ensures { result ≡ is_trip_old now self.now }
     {
         FIVE_SECONDS < now.saturating_sub(self.began)
     }
@@ -54,7 +54,7 @@ impl LeastTrip {
 
     /// The least of all.
     pub fn least(&self) -> u32
-        ensures { result ≡ least_of self.now }
+        ensures { result ≡ least_trip_of self.now }
     {
         self.before.min(self.least)
     }

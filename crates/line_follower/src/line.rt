@@ -1,9 +1,9 @@
 //! The rate of a line.
 ghost use Rattle.std.specs.Prelude.{◌≡◌, ◌*◌, ◌≤◌};
 ghost use Rattle.line_follower.specs.Following.{is_held_for, noticed};
-ghost use Rattle.line_follower.specs.Rating.{action_of, after_action, calm_action, cut_of, first_line, grown, heard, is_choked, is_empty, is_fair};
-ghost use Rattle.line_follower.specs.Rating.{is_fine, is_lossy, is_near, limited, losing_action, may_grow, more_of, queued, sent_line, shrunk};
-ghost use Rattle.line_follower.specs.Rating.{slope_with, speed_of, told_line, tripped, turned};
+ghost use Rattle.line_follower.specs.Rating.{action_of, after_action, calm_action, eighths_left, line_at_first, grown, line_heard, is_choked, is_line_empty, is_fair};
+ghost use Rattle.line_follower.specs.Rating.{is_fine, is_lossy, is_near, limited_rate, losing_action, may_grow, rate_grown, queued, sent_line, shrunk};
+ghost use Rattle.line_follower.specs.Rating.{slope_with, speed_of, line_when_told, tripped, line_turned};
 
 use crate::debt::Debt;
 use crate::drain::{self, Drain};
@@ -86,7 +86,7 @@ pub struct Line {
 impl Line {
     /// Nothing was sent yet.
     pub fn first(rate: u32, least: u32, most: u32, now: u64) -> Line
-        ensures { result ≡ first_line rate least most now }
+        ensures { result ≡ line_at_first rate least most now }
     {
         Line {
             rate,
@@ -144,7 +144,7 @@ impl Line {
 
     /// Something was told of a picture, and so much comes through.
     pub fn told(&self, picture: &Picture, is_whole: bool, through: u32, now: u64) -> Line
-        ensures { result ≡ told_line picture.now is_whole through now self.now }
+        ensures { result ≡ line_when_told picture.now is_whole through now self.now }
     {
         let is_judged = self.losses.is_judged(picture.packets, is_whole, now);
         let slope = self.slope(picture, is_whole, now);
@@ -169,7 +169,7 @@ impl Line {
 
     // What became of a picture is noted.
     fn heard(&self, picture: &Picture, is_whole: bool, now: u64) -> Line
-        ensures { result ≡ heard picture.now is_whole now self.now }
+        ensures { result ≡ line_heard picture.now is_whole now self.now }
     {
         let line = Line {
             losses: self.losses.after(picture.packets, is_whole, now),
@@ -211,7 +211,7 @@ impl Line {
 
     // The eighths of the rate that are left, where it is to be cut.
     fn cut(&self, is_whole: bool, through: u32) -> Option<u32>
-        ensures { result ≡ cut_of is_whole through self.now }
+        ensures { result ≡ eighths_left is_whole through self.now }
     {
         if is_whole {
             return self.latest.carried();
@@ -284,7 +284,7 @@ impl Line {
 
     // Whether nothing waits on the line.
     fn is_empty(&self) -> bool
-        ensures { result ≡ is_empty self.now }
+        ensures { result ≡ is_line_empty self.now }
     {
         (self.trip as u64) < self.least_trip.least() as u64 + EMPTY
     }
@@ -312,7 +312,7 @@ impl Line {
     }
 
     fn turned(&self, action: Action, through: u32, now: u64) -> Line
-        ensures { result ≡ turned action through now self.now }
+        ensures { result ≡ line_turned action through now self.now }
     {
         let line = self.after(action, through, now);
         Line { grown: now, ..line }
@@ -421,14 +421,14 @@ fn is_near(rate: u32, full: Option<u32>) -> bool
 fn more_of(rate: u32, speed: u64, micros: u64) -> u64
     requires speed { speed ≤ 223 }
     requires micros { micros ≤ 1000000 }
-    ensures { result ≡ more_of rate speed micros }
+    ensures { result ≡ rate_grown rate speed micros }
 {
     rate as u64 + rate as u64 * speed * micros / 1_000_000_000
 }
 
 // No further than the most, and than 1.5 times what comes through.
 fn limited(rate: u32, more: u64, most: u32, through: u32) -> u32
-    ensures { result ≡ limited rate more most through }
+    ensures { result ≡ limited_rate rate more most through }
 {
     let limit = (most as u64).min(3 * through as u64 / 2);
     more.min(limit).max(rate as u64) as u32

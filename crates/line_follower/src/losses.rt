@@ -1,6 +1,6 @@
 //! The share of packets that are lost.
 ghost use Rattle.std.specs.Prelude.{◌≡◌, ◌≤◌};
-ghost use Rattle.line_follower.specs.Losing.{cleared_losses, counted, first_losses, is_judged, losses_after, share_of};
+ghost use Rattle.line_follower.specs.Losing.{cleared_losses, losses_counted, first_losses, is_judged, losses_after, share_of};
 
 // They are judged each second, if it had so many packets.
 const SECOND: u64 = 1_000_000_000;
@@ -44,7 +44,7 @@ impl Losses {
 
     // With the packets of one more picture.
     fn counted(&self, packets: u32, is_whole: bool) -> Losses
-        ensures { result ≡ counted packets is_whole self.now }
+        ensures { result ≡ losses_counted packets is_whole self.now }
     {
         let lost = if is_whole {
             self.lost
@@ -61,7 +61,7 @@ impl Losses {
 
     /// Whether they are judged with what became of one more picture.
     pub fn is_judged(&self, packets: u32, is_whole: bool, now: u64) -> bool
-        ensures { result ≡ is_judged now (counted packets is_whole self.now) }
+        ensures { result ≡ is_judged now (losses_counted packets is_whole self.now) }
     {
         let counted = self.counted(packets, is_whole);
         if now.saturating_sub(counted.began) < SECOND {

@@ -1,8 +1,8 @@
 //! The sizes of pictures.
 ghost use Rattle.std.specs.Prelude.{◌≡◌, ◌*◌, ◌<◌, ◌≤◌, ◌^◌};
 ghost use Rattle.line_follower.specs.Bucket.{IsTargetFor};
-ghost use Rattle.line_follower.specs.Pacing.{first_pace, heads_after, heads_of, nearest_quant, pace_after, pace_at, quant_after, quant_at, quant_by};
-ghost use Rattle.line_follower.specs.Pacing.{rate_of, size_at, wanted_of};
+ghost use Rattle.line_follower.specs.Pacing.{first_pace, heads_after, heads_of, nearest_quant, pace_after, pace_at, quant_by_size, quant_by_rate, quant_by};
+ghost use Rattle.line_follower.specs.Pacing.{rate_per_second, size_at, wanted_of};
 
 use crate::search::target_for;
 use crate::sizes::Sizes;
@@ -128,7 +128,7 @@ pub fn heads_of(packets: u16) -> u32
 /// So many bytes a picture, as a rate.
 pub fn rate_of(bytes: u32, period: u32) -> u32
     requires { 1 ≤ period }
-    ensures { result ≡ rate_of bytes period }
+    ensures { result ≡ rate_per_second bytes period }
 {
     (bytes as u64 * SECOND / period as u64).min(u32::MAX as u64) as u32
 }
@@ -140,7 +140,7 @@ fn heads_after(heads: u32, packets: u16) -> u32
 }
 
 fn quant_after(quant: u16, bytes: u32, wanted: u32, finest: u8) -> u16
-    ensures { result ≡ quant_after quant bytes wanted finest }
+    ensures { result ≡ quant_by_size quant bytes wanted finest }
 {
     let w = wanted.max(1) as u64;
     quant_by(quant, (bytes as u64).max(w / 2).min(2 * w), w, finest)
@@ -148,7 +148,7 @@ fn quant_after(quant: u16, bytes: u32, wanted: u32, finest: u8) -> u16
 
 // After a fall of the rate.
 fn quant_at(quant: u16, before: u32, rate: u32, finest: u8) -> u16
-    ensures { result ≡ quant_at quant before rate finest }
+    ensures { result ≡ quant_by_rate quant before rate finest }
 {
     let w = rate.max(1) as u64;
     quant_by(quant, (before as u64).min(4 * w), w, finest)

@@ -1,6 +1,6 @@
 //! A picture that was sent.
 ghost use Rattle.std.specs.Prelude.{◌≡◌};
-ghost use Rattle.line_follower.specs.Table.{came_of, is_open, no_picture, told_as, trip_of};
+ghost use Rattle.line_follower.specs.Table.{came_at, is_untold_number, no_picture, picture_told, trip_of};
 
 const HALF_SECOND: u64 = 500_000_000;
 // A round trip counts as no more than ten seconds, in microseconds.
@@ -43,7 +43,7 @@ impl Picture {
 
     /// Whether it has this number, and nothing was told of it yet.
     pub fn is_open(&self, number: u32) -> bool
-        ensures { result ≡ is_open number self.now }
+        ensures { result ≡ is_untold_number number self.now }
     {
         if self.number != number {
             return false;
@@ -57,7 +57,7 @@ impl Picture {
 
     /// The same once something was told of it.
     pub fn told(&self, is_whole: bool, now: u64) -> Picture
-        ensures { result ≡ told_as is_whole now self.now }
+        ensures { result ≡ picture_told is_whole now self.now }
     {
         let fate = if is_whole {
             Fate::Whole(now)
@@ -82,7 +82,7 @@ impl Picture {
 
     /// Its bytes, where they came in the last half second.
     pub fn came(&self, now: u64) -> u32
-        ensures { result ≡ came_of now self.now }
+        ensures { result ≡ came_at now self.now }
     {
         match self.fate {
             Fate::Open => 0,

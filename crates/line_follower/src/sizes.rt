@@ -1,6 +1,6 @@
 //! The sizes of the latest pictures, and what the sender makes of them.
 ghost use Rattle.std.specs.Prelude.{◌≡◌, ◌+◌, ◌*◌, ◌<◌, ◌≤◌, ◌^◌};
-ghost use Rattle.line_follower.specs.Bucket.{four_level, level_of, no_sizes, poured, quant_for, sizes_with};
+ghost use Rattle.line_follower.specs.Bucket.{four_level, bucket_level, no_sizes, poured, quant_for, sizes_with};
 
 use crate::four::Four;
 
@@ -40,7 +40,7 @@ impl Sizes {
 
     // The level of a bucket of which this target runs out with each picture.
     fn level(&self, target: u32) -> u64
-        ensures value { result ≡ level_of target self.now }
+        ensures value { result ≡ bucket_level target self.now }
         ensures small { result < 2 ^ 36 }
     {
         let level = four_level(0, &self.oldest, target);

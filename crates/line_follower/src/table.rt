@@ -1,6 +1,6 @@
 //! The latest 256 pictures that were sent.
 ghost use Rattle.std.specs.Prelude.{◌≡◌, ◌%◌, ◌<◌, ◌^◌, length, slice_get, slice_set, Some, sum_by};
-ghost use Rattle.line_follower.specs.Table.{doubled, open_of, put, through};
+ghost use Rattle.line_follower.specs.Table.{doubled, open_of, put, rate_through};
 
 use crate::picture::Picture;
 
@@ -26,7 +26,7 @@ pub fn put(pictures: &mut [Picture], picture: &Picture)
 /// The bytes that came whole in the last half second, as bytes a second.
 pub fn through(pictures: &[Picture], now: u64) -> u32
     requires { length pictures.now ≡ 256 }
-    ensures { result ≡ through now pictures.now }
+    ensures { result ≡ rate_through now pictures.now }
 {
     let mut sum = 0u64;
     for picture in pictures {

@@ -1,6 +1,6 @@
 //! The round trips of the latest pictures.
 ghost use Rattle.std.specs.Prelude.{◌≡◌, ◌<◌, ◌^◌};
-ghost use Rattle.line_follower.specs.Trending.{eased, eased_four, fall_of, is_down, is_full, is_up, no_trips, rise_of, thirds_at, trips_with};
+ghost use Rattle.line_follower.specs.Trending.{eased, eased_four, fall_of, is_down, are_trips_full, is_up, no_trips, rise_of, thirds_at, trips_with};
 
 use crate::four::Four;
 
@@ -58,7 +58,7 @@ impl Trips {
 
     /// Whether there are twelve.
     pub fn is_full(&self) -> bool
-        ensures { result ≡ is_full self.now }
+        ensures { result ≡ are_trips_full self.now }
     {
         self.count == 12
     }

@@ -7,9 +7,9 @@ use Rattle.h263_outside.specs.Desk.{Outside}
 use Rattle.h263_outside.specs.declared.desk.Role.{Role}
 use Rattle.event_logs.specs.declared.entry.Entry.{Entry}
 use Rattle.event_logs.specs.declared.entry.Side.{Side}
-use Rattle.event_logs.specs.Entry.{bytes_of, entry_in}
+use Rattle.event_logs.specs.Entry.{entry_size, entry_in}
 use Rattle.event_logs.specs.Place.{LogPlace, IsInLog}
-use Rattle.event_logs.specs.Reader.{EntryGives, Moves}
+use Rattle.event_logs.specs.Reader.{EntryGives, MovesLog}
 use Rattle.call_report.specs.Status.{phase}
 use Rattle.call_report.specs.declared.status.Status.{Status}
 use Rattle.call_report.specs.declared.status.Status.TheVariants.{WriteFault}
@@ -41,9 +41,9 @@ pub gave : (o known : Option (ℕ × Entry)) (reader : LogPlace) (rest buf : Lis
 gave o known reader rest buf left is gives = subst (λ (x : Option (ℕ × Entry)). EntryGives (Ok x) reader rest buf left)
     is gives
 
-pub moved : (o known : Option (ℕ × Entry)) (reader after : LogPlace) → o ≡ known → Moves (Ok o) reader after
-    → Moves (Ok known) reader after
-moved o known reader after is moves = subst (λ (x : Option (ℕ × Entry)). Moves (Ok x) reader after) is moves
+pub moved : (o known : Option (ℕ × Entry)) (reader after : LogPlace) → o ≡ known → MovesLog (Ok o) reader after
+    → MovesLog (Ok known) reader after
+moved o known reader after is moves = subst (λ (x : Option (ℕ × Entry)). MovesLog (Ok x) reader after) is moves
 
 -- an entry was read, by what the machine has kept in mind
 pub record Entered {State : Type 0} (side : Side) (s : LogState State) (after : LogPlace) (at : ℕ) (entry : Entry)
@@ -51,16 +51,17 @@ pub record Entered {State : Type 0} (side : Side) (s : LogState State) (after : 
   pub few : s.entries < 16777216
   pub place : s.at ≡ at
   pub is : entry_in side rest ≡ Some entry
-  pub bytes : take (bytes_of entry) buf ≡ take (bytes_of entry) (drop 3 rest)
-  pub gone : left ≡ Some (drop (3 + bytes_of entry) rest)
-  pub next_at : s.at + (3 + bytes_of entry) ≡ after.at
+  pub bytes : take (entry_size entry) buf ≡ take (entry_size entry) (drop 3 rest)
+  pub gone : left ≡ Some (drop (3 + entry_size entry) rest)
+  pub next_at : s.at + (3 + entry_size entry) ≡ after.at
   pub next_count : s.entries + 1 ≡ after.entries
 
 pub entered : {State : Type 0} (side : Side) (s : LogState State) (reader after : LogPlace) (at : ℕ)
     (found entry : Entry) (rest buf : List ℕ) (left : Option (List ℕ)) (o : Option (ℕ × Entry))
     → s.at ≡ reader.at → s.entries ≡ reader.entries → reader.side ≡ side → IsInLog after → o ≡ Some (at, found)
     → found ≡ entry
-    → EntryGives (Ok o) reader rest buf left → Moves (Ok o) reader after → Entered side s after at entry rest buf left
+    → EntryGives (Ok o) reader rest buf left → MovesLog (Ok o) reader after
+    → Entered side s after at entry rest buf left
 entered side s reader after at found entry rest buf left o place count of_side within some is gives moves =
     let known : o ≡ Some (at, entry) = some ∙ ap (λ (e : Entry). let x : Option (ℕ × Entry) = Some (at, e) in x) is in
     let g = gave o (Some (at, entry)) reader rest buf left known gives in
@@ -71,7 +72,7 @@ entered side s reader after at found entry rest buf left o place count of_side w
       is = subst (λ (x : Side). entry_in x rest ≡ Some entry) of_side g.0;
       bytes = g.1;
       gone = g.2;
-      next_at = ap (λ (n : ℕ). n + (3 + bytes_of entry)) place ∙ sym v.3;
+      next_at = ap (λ (n : ℕ). n + (3 + entry_size entry)) place ∙ sym v.3;
       next_count = ap (λ (n : ℕ). n + 1) count ∙ sym v.2;
     }
 

@@ -8,7 +8,7 @@ use Rattle.event_logs.specs.declared.entry.Entry.{Entry}
 use Rattle.event_logs.specs.declared.entry.Entry.TheVariants.{Capture, Back, Packet, Play}
 use Rattle.event_logs.specs.declared.entry.Side.{Side}
 use Rattle.event_logs.specs.declared.fault.LogFault.TheVariants.{TooMany}
-use Rattle.event_logs.specs.Entry.{bytes_of, entry_in}
+use Rattle.event_logs.specs.Entry.{entry_size, entry_in}
 use Rattle.desk_program.specs.Ends.{IsPart, step_turns}
 use Rattle.desk_program.specs.Run.Step.{Goes}
 use Rattle.desk_program.specs.Texts.{of}
@@ -22,7 +22,7 @@ some_bytes side (b ∷ log) e is = omega arith
 -- a whole entry stays where the log is cut after it
 abbrev pub StaysWhole : Type 0
 StaysWhole =
-    (side : Side) (entry : Entry) (text : List ℕ) (k : ℕ) → entry_in side text ≡ Some entry → 3 + bytes_of entry ≤ k
+    (side : Side) (entry : Entry) (text : List ℕ) (k : ℕ) → entry_in side text ≡ Some entry → 3 + entry_size entry ≤ k
     → entry_in side (take k text) ≡ Some entry
 
 not_held : (size k : ℕ) → (size ≤ k → ⊥) → nat_le size k ≡ false
@@ -55,10 +55,10 @@ module _ {State : Type 0} (does : LogRules State) (s : LogState State) where
 
   module _ (stays : StaysWhole) (log : List ℕ) (k : ℕ) (none : entry_in does.side (take k log) ≡ None) where
     part_of_turn : (e : Entry) (texts : Role → List ℕ) → entry_in does.side log ≡ Some e
-        → IsPart (entry_turn (3 + bytes_of e) texts ∷ []) (of Events k)
+        → IsPart (entry_turn (3 + entry_size e) texts ∷ []) (of Events k)
     part_of_turn e texts is =
         ap (λ (b : Bool). true && true && b && true)
-        (not_held (3 + bytes_of e) k (λ le. absurd (cc (none, stays does.side e log k is le))))
+        (not_held (3 + entry_size e) k (λ le. absurd (cc (none, stays does.side e log k is le))))
 
     part_if : (t : Bool) (next : LogState State) (size : ℕ) (texts : Role → List ℕ)
         → IsPart (entry_turn size texts ∷ []) (of Events k)
@@ -68,10 +68,10 @@ module _ {State : Type 0} (does : LogRules State) (s : LogState State) where
     part_if false next size texts part = tt
 
     other_part : (e : Entry) → entry_in does.side log ≡ Some e
-        → IsPart (step_turns (other_step does s (3 + bytes_of e) (take (bytes_of e) (drop 3 log)))) (of Events k)
+        → IsPart (step_turns (other_step does s (3 + entry_size e) (take (entry_size e) (drop 3 log)))) (of Events k)
     other_part e is =
-        let texts = does.other_text s.mind (take (bytes_of e) (drop 3 log)) in
-        part_if _ _ (3 + bytes_of e) texts (part_of_turn e texts is)
+        let texts = does.other_text s.mind (take (entry_size e) (drop 3 log)) in
+        part_if _ _ (3 + entry_size e) texts (part_of_turn e texts is)
 
     entry_part : (o : Option Entry) → entry_in does.side log ≡ o
         → IsPart (step_turns (entry_step does s log o)) (of Events k)
@@ -106,25 +106,26 @@ module _ {State : Type 0} (does : LogRules State) (s : LogState State) where
     module _ (e : Entry) (other : (len : ℕ) → e ≡ Packet len → ⊥) (is : entry_in does.side (inputs Events)
         ≡ Some e) where
       no_packet : (log : List ℕ) (e : Entry) → ((len : ℕ) → e ≡ Packet len → ⊥) → entry_step does s log (Some e)
-          ≡ other_step does s (3 + bytes_of e) (take (bytes_of e) (drop 3 log))
+          ≡ other_step does s (3 + entry_size e) (take (entry_size e) (drop 3 log))
       no_packet log Capture other = refl
       no_packet log (Back len) other = refl
       no_packet log Play other = refl
       no_packet log (Packet len) other = absurd (other len refl)
 
-      other_next : (bytes : List ℕ) (t : Bool) → bytes ≡ take (bytes_of e) (drop 3 (inputs Events))
+      other_next : (bytes : List ℕ) (t : Bool) → bytes ≡ take (entry_size e) (drop 3 (inputs Events))
           → nat_lt (does.plays s.mind) 1048576 ≡ t → log_step does s inputs
-          ≡ (if t then Goes (after_entry s (does.other s.mind bytes) (3 + bytes_of e))
-          (entry_turn (3 + bytes_of e) (does.other_text s.mind bytes)) else refused_log (TooMany s.at))
+          ≡ (if t then Goes (after_entry s (does.other s.mind bytes) (3 + entry_size e))
+          (entry_turn (3 + entry_size e) (does.other_text s.mind bytes)) else refused_log (TooMany s.at))
       other_next bytes t same test =
           entry_next (inputs Events) (Some e) few (some_bytes does.side (inputs Events) e is) is
-          ∙ no_packet (inputs Events) e other ∙ ap (other_step does s (3 + bytes_of e)) (sym same)
-          ∙ ap (λ (b : Bool). if b then Goes (after_entry s (does.other s.mind bytes) (3 + bytes_of e))
-          (entry_turn (3 + bytes_of e) (does.other_text s.mind bytes)) else refused_log (TooMany s.at)) test
+          ∙ no_packet (inputs Events) e other ∙ ap (other_step does s (3 + entry_size e)) (sym same)
+          ∙ ap (λ (b : Bool). if b then Goes (after_entry s (does.other s.mind bytes) (3 + entry_size e))
+          (entry_turn (3 + entry_size e) (does.other_text s.mind bytes)) else refused_log (TooMany s.at)) test
 
-      pub other_is : (bytes : List ℕ) → bytes ≡ take (bytes_of e) (drop 3 (inputs Events)) → does.plays s.mind < 1048576
-          → log_step does s inputs ≡ Goes (after_entry s (does.other s.mind bytes) (3 + bytes_of e))
-          (entry_turn (3 + bytes_of e) (does.other_text s.mind bytes))
+      pub other_is : (bytes : List ℕ) → bytes ≡ take (entry_size e) (drop 3 (inputs Events))
+          → does.plays s.mind < 1048576
+          → log_step does s inputs ≡ Goes (after_entry s (does.other s.mind bytes) (3 + entry_size e))
+          (entry_turn (3 + entry_size e) (does.other_text s.mind bytes))
       other_is bytes same more = other_next bytes true same (lt-ltb (does.plays s.mind) 1048576 more)
 
       pub all_played : 1048576 ≤ does.plays s.mind → log_step does s inputs ≡ refused_log (TooMany s.at)

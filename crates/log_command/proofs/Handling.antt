@@ -9,7 +9,7 @@ use Rattle.event_logs.specs.declared.fault.LogStop.{LogStop}
 use Rattle.event_logs.specs.declared.fault.LogStop.TheVariants as reader_stops
 use Rattle.event_logs.specs.Entry.{entry_in}
 use Rattle.event_logs.specs.Place.{LogPlace}
-use Rattle.event_logs.specs.Reader.{EntryGives, Moves}
+use Rattle.event_logs.specs.Reader.{EntryGives, MovesLog}
 use Rattle.call_report.specs.declared.status.Status.{Status}
 use Rattle.call_report.specs.declared.status.Status.TheVariants.{Ok as Fine, LogRefused}
 use Rattle.call_report.specs.Status.{log_stop, phase}
@@ -32,7 +32,7 @@ module _ {State : Type 0} (does : LogRules State) (laws : TurnLaws) (s : LogStat
   -- the reader has stopped
   pub stops : StaysWhole → (reader after : LogPlace) (buf : List ℕ) (stop : LogStop) → reader.side ≡ does.side
       → s.at ≡ reader.at → s.entries ≡ reader.entries
-      → EntryGives (Err stop) reader (inputs Events) buf (mid.left Events) → Moves (Err stop) reader after
+      → EntryGives (Err stop) reader (inputs Events) buf (mid.left Events) → MovesLog (Err stop) reader after
       → GivesUp (phase (log_stop stop)) (log_stop stop) (log_step does s inputs) true inputs old mid
   stops stays reader after buf reader_stops.Read side at count e moves = record {
     part = of Events e.taken;

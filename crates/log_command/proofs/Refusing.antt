@@ -8,7 +8,7 @@ use Rattle.event_logs.specs.declared.fault.LogFault.{LogFault}
 use Rattle.event_logs.specs.Entry.{entry_in}
 use Rattle.call_report.specs.declared.status.Status.{Status}
 use Rattle.call_report.specs.declared.status.Status.TheVariants.{Ok as Fine, LogRefused}
-use Rattle.desk_program.specs.Run.{Run, left_after, follow, run_of, silence}
+use Rattle.desk_program.specs.Run.{Run, left_after, follow, machine_run, silence}
 use Rattle.log_command.specs.Log.{LogRules, LogState, entry_step, log_run, log_step, other_step, step_in}
 
 -- a status of another kind
@@ -44,12 +44,12 @@ module _ {State : Type 0} (does : LogRules State) (status : Status) (other : IsO
         within false is ends = other.log _ (rw is at ends)
 
   run_refuses_none : (n : ℕ) (s : LogState State) (inputs : Role → List ℕ)
-      → (run_of (log_step does) n s inputs).last.status ≡ status → ⊥
-  unfolding run_of
+      → (machine_run (log_step does) n s inputs).last.status ≡ status → ⊥
+  unfolding machine_run
   run_refuses_none zero s inputs ends = at_log s (λ next taken. silence) (λ next taken is. other.fine is)
       (inputs Events) ends
   run_refuses_none (suc n) s inputs ends =
-      at_log s (λ next taken. run_of (log_step does) n next (left_after inputs taken))
+      at_log s (λ next taken. machine_run (log_step does) n next (left_after inputs taken))
       (λ next taken is. run_refuses_none n next (left_after inputs taken) is) (inputs Events) ends
 
   pub none_refused : (first : State) (head : Role → List ℕ) (inputs : Role → List ℕ)

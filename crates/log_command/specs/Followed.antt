@@ -7,7 +7,7 @@ use Rattle.event_logs.specs.declared.entry.Entry.{Entry}
 use Rattle.event_logs.specs.declared.entry.Entry.TheVariants.{Capture, Back, Packet, Play}
 use Rattle.event_logs.specs.declared.fault.LogFault.{LogFault}
 use Rattle.event_logs.specs.declared.fault.LogFault.TheVariants.{TooMany}
-use Rattle.event_logs.specs.Entry.{bytes_of}
+use Rattle.event_logs.specs.Entry.{entry_size}
 use Rattle.event_logs.specs.Log.{Found, log_entries, log_fault}
 use Rattle.call_report.specs.declared.status.Status.{Status}
 use Rattle.call_report.specs.declared.status.Status.TheVariants.{Ok as Fine, LogRefused}
@@ -59,7 +59,7 @@ module _ {State : Type 0} (rules : LogRules State) where
   abbrev pub turns_over : State → List Found → List Turn
   turns_over s [] = []
   turns_over s (found ∷ more) =
-      entry_turn (3 + bytes_of found.entry) (text_with s found.entry found.bytes)
+      entry_turn (3 + entry_size found.entry) (text_with s found.entry found.bytes)
       ∷ turns_over (mind_with s found.entry found.bytes) more
 
   -- The entries that it accepts are the first ones of the log, one in each turn but the first, which

@@ -7,7 +7,7 @@ use Rattle.event_logs.specs.declared.entry.Entry.TheVariants.{Packet}
 use Rattle.event_logs.specs.declared.entry.Side.{Side}
 use Rattle.event_logs.specs.declared.fault.LogFault.{LogFault}
 use Rattle.event_logs.specs.declared.fault.LogFault.TheVariants.{BadRecord, TooMany}
-use Rattle.event_logs.specs.Entry.{bytes_of, entry_in}
+use Rattle.event_logs.specs.Entry.{entry_size, entry_in}
 use Rattle.call_report.specs.Status.{Phase}
 use Rattle.call_report.specs.Status.Phase.{starved, unwritten}
 use Rattle.call_report.specs.declared.status.Status.TheVariants.{Ok as Fine, LogRefused}
@@ -84,7 +84,7 @@ abbrev pub entry_step : {State : Type 0} → LogRules State → LogState State �
     → Step (LogState State)
 entry_step rules s log None = refused_log (BadRecord s.at)
 entry_step rules s log (Some (Packet len)) = packet_step rules s (3 + len) (take len (drop 3 log))
-entry_step rules s log (Some entry) = other_step rules s (3 + bytes_of entry) (take (bytes_of entry) (drop 3 log))
+entry_step rules s log (Some entry) = other_step rules s (3 + entry_size entry) (take (entry_size entry) (drop 3 log))
 
 -- the log is at its end
 abbrev pub all_read : {State : Type 0} → LogRules State → LogState State → End

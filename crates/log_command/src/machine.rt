@@ -1,6 +1,6 @@
 //! The machine of a command over a log: each turn reads an entry, and hands it to the command.
 ghost use Rattle.std.specs.Prelude.{◌≡◌};
-ghost use Rattle.event_logs.specs.Entry.{bytes_of};
+ghost use Rattle.event_logs.specs.Entry.{entry_size};
 
 use crate::LogCommand;
 use call_report::Status;
@@ -17,7 +17,7 @@ const MAX_PLAYS: u32 = 1_048_576;
 
 // How many bytes an entry has.
 fn len_of(entry: Entry) -> usize
-    ensures { result ≡ bytes_of entry }
+    ensures { result ≡ entry_size entry }
 {
     match entry {
         Entry::Packet { len } | Entry::Back { len } => len as usize,

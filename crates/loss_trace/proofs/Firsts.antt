@@ -5,8 +5,9 @@ use borrow.Author.Tests.{lt-ltb, le-ltb}
 use Rattle.std.proofs.lemmas.Bool.Decides.{nat_tests}
 use Rattle.std.proofs.lemmas.List.{take_more_set, drop-drop, take-append-drop}
 use Rattle.std.proofs.lemmas.List.Elements.{All-nil, All-cons, All-head, All-tail, All-append}
-use Rattle.loss_trace.specs.Lines.{NoNewline, first_line, is_closed, after_long}
-use Rattle.loss_trace.specs.Input.{IsFirst}
+use Rattle.h263_outside.specs.Lines.{NoNewline}
+use Rattle.loss_trace.specs.Lines.{first_line, is_closed, after_long}
+use Rattle.loss_trace.specs.Input.{IsFirstLine}
 
 abbrev Other : ℕ → Type 0
 Other b = b ≢ 10
@@ -77,7 +78,7 @@ module _ (text buf : List ℕ) (i : ℕ) (came : Came text buf i) (left : Option
   size = omega (arith, length-take i text, came.within)
 
   -- the text ends here
-  pub unclosed : 0 < i → drop i text ≡ [] → IsFirst text buf i left × (is_closed text ≡ false)
+  pub unclosed : 0 < i → drop i text ≡ [] → IsFirstLine text buf i left × (is_closed text ≡ false)
   unclosed some none =
       let all : take i text ≡ text = sym (append-nil (take i text)) ∙ ap (λ (l : List ℕ). take i text ++ l) (sym none)
       ∙ take-append-drop i text in
@@ -102,7 +103,7 @@ module _ (text buf : List ℕ) (i : ℕ) (came : Came text buf i) (left : Option
     longer = omega (arith, some_of (drop i text) (drop 1 (drop i text)) b there, length-drop i text)
 
     -- its newline is here
-    pub closed : b ≡ 10 → IsFirst text buf i left × (is_closed text ≡ true)
+    pub closed : b ≡ 10 → IsFirstLine text buf i left × (is_closed text ≡ true)
     closed ten =
         let line : first_line text ≡ take i text = ap first_line parts
         ∙ first_found (take i text) (drop 1 (drop i text)) b came.free ten in

@@ -5,7 +5,7 @@ use Rattle.loss_trace.specs.declared.fault.TraceStop.{TraceStop}
 use Rattle.loss_trace.specs.declared.fault.TraceStop.TheVariants.{Read, Bad, TooMany}
 use Rattle.loss_trace.specs.declared.reader.Fetched.{Fetched}
 use Rattle.loss_trace.specs.Lines.{first_line, is_closed, after_long}
-use Rattle.loss_trace.specs.Input.{IsFirst}
+use Rattle.loss_trace.specs.Input.{IsFirstLine}
 use Rattle.loss_trace.specs.Reading.{event_in}
 use Rattle.loss_trace.specs.Place.{TracePlace}
 use Rattle.loss_trace.specs.Reader.{Passes, IsOver, IsPastAll, EventGives, BytesGive, FetchGives}
@@ -48,12 +48,12 @@ module _ (old : TracePlace) (rest buf : List ℕ) (left : Option (List ℕ)) whe
 
 -- a line that was found
 pub found_of : (old : TracePlace) (rest buf : List ℕ) (left : Option (List ℕ)) (found : Option Fetched) (line : Fetched)
-    → found ≡ Some line → FetchGives (Ok found) old rest buf left → IsFirst rest buf line.len left
+    → found ≡ Some line → FetchGives (Ok found) old rest buf left → IsFirstLine rest buf line.len left
     × (is_closed rest ≡ line.closed)
 found_of old rest buf left found line is gives = subst (λ (o : Option Fetched). FetchGives (Ok o) old rest buf left) is
     gives
 
-module _ (rest buf : List ℕ) (len : ℕ) (left : Option (List ℕ)) (first : IsFirst rest buf len left) where
+module _ (rest buf : List ℕ) (len : ℕ) (left : Option (List ℕ)) (first : IsFirstLine rest buf len left) where
   -- a reader that has passed a line is open exactly where the line has ended
   pub passes : (new : TracePlace) (closed : Bool) → is_closed rest ≡ closed → new.ended ≡ not closed
       → Passes rest new left

@@ -12,8 +12,8 @@ use Rattle.std.proofs.lemmas.List.Quantifiers.{position-Some}
 use Rattle.std.proofs.lemmas.Slice.Eq.{bytes_eq-Decides}
 use Rattle.loss_trace.specs.declared.event.Event.{Event}
 use Rattle.loss_trace.specs.declared.event.Event.TheVariants.{Nothing, Send, Packet, All, Back, Play}
-use Rattle.loss_trace.specs.Line.{Part, Word, Number, IsNumber, IsPart, Spell, parts_of, IsLine}
-use Rattle.loss_trace.specs.Reading.{is_number, number_in, with_place, with_number, with_stop, packet_in, short_in, event_in}
+use Rattle.loss_trace.specs.Line.{Part, Word, Number, IsNumber, IsEventPart, Spell, line_parts, IsLine}
+use Rattle.loss_trace.specs.Reading.{is_trace_number, trace_number, event_with_place, event_with_number, with_stop, packet_event, short_in, event_in}
 
 both : (a b : Bool) → a && b ≡ true → (a ≡ true) × (b ≡ true)
 both true b e = (refl, e)
@@ -27,16 +27,16 @@ if_some true x y e = (refl, cc)
 if_some false x y e = absurd (cc)
 
 -- a number in its digits
-number_is : (digits : List ℕ) (n : ℕ) → number_in digits ≡ Some n → IsNumber n digits
+number_is : (digits : List ℕ) (n : ℕ) → trace_number digits ≡ Some n → IsNumber n digits
 number_is digits n e =
-    let h = if_some (is_number digits) (digits_value 10 digits) n e in
+    let h = if_some (is_trace_number digits) (digits_value 10 digits) n e in
     let k = both (nat_lt 0 (length digits) && nat_le (length digits) 7) (all_ascii_digits digits) h.0 in
     let m = both (nat_lt 0 (length digits)) (nat_le (length digits) 7) k.0 in
     record { some = ltb-true 0 (length digits) m.0; few = leb-true (length digits) 7 m.1; decimal = k.1; value = h.1 }
 
-number_found : (n : ℕ) (digits : List ℕ) → IsNumber n digits → number_in digits ≡ Some n
+number_found : (n : ℕ) (digits : List ℕ) → IsNumber n digits → trace_number digits ≡ Some n
 number_found n digits h =
-    let is : is_number digits ≡ true =
+    let is : is_trace_number digits ≡ true =
     and_of (nat_lt 0 (length digits) && nat_le (length digits) 7) (all_ascii_digits digits)
     (and_of (nat_lt 0 (length digits)) (nat_le (length digits) 7) (lt-ltb 0 (length digits) h.some)
     (le-leb (length digits) 7 h.few)) h.decimal in
@@ -97,7 +97,8 @@ place_line Play bytes h = absurd h
 
 module _ (bytes digits place : List ℕ) (n : ℕ) (parts : bytes ≡ digits ++ 46 ∷ place) (number : IsNumber n digits)
     (event : Event) where
-  one_place : (o : Option ℕ) → number_in place ≡ o → option_map (λ i. Packet n i) o ≡ Some event → IsPlace event bytes
+  one_place : (o : Option ℕ) → trace_number place ≡ o → option_map (λ i. Packet n i) o ≡ Some event
+      → IsPlace event bytes
   one_place None is e = absurd (cc)
   one_place (Some i) is e =
       let spelled : IsPlace (Packet n i) bytes = (
@@ -111,7 +112,7 @@ module _ (bytes digits place : List ℕ) (n : ℕ) (parts : bytes ≡ digits ++ 
       subst (λ (x : Event). IsPlace x bytes) same spelled
 
   a_place : (t : Bool) → bytes_eq place (codes "*") ≡ t
-      → cond t (Some (All n)) (option_map (λ i. Packet n i) (number_in place)) ≡ Some event → IsPlace event bytes
+      → cond t (Some (All n)) (option_map (λ i. Packet n i) (trace_number place)) ≡ Some event → IsPlace event bytes
   a_place true is e =
       let star : place ≡ codes "*" = (bytes_eq-Decides place (codes "*")).0 is in
       let spelled : IsPlace (All n) bytes = (
@@ -123,10 +124,10 @@ module _ (bytes digits place : List ℕ) (n : ℕ) (parts : bytes ≡ digits ++ 
       ) in
       let same : All n ≡ event = cc in
       subst (λ (x : Event). IsPlace x bytes) same spelled
-  a_place false is e = one_place (number_in place) refl e
+  a_place false is e = one_place (trace_number place) refl e
 
 a_number : (bytes : List ℕ) (k : ℕ) (event : Event) → position is_stop bytes ≡ Some k → (o : Option ℕ)
-    → number_in (take k bytes) ≡ o → with_number (drop (k + 1) bytes) o ≡ Some event → IsPlace event bytes
+    → trace_number (take k bytes) ≡ o → event_with_number (drop (k + 1) bytes) o ≡ Some event → IsPlace event bytes
 a_number bytes k event at None is e = absurd (cc)
 a_number bytes k event at (Some n) is e =
     a_place bytes (take k bytes) (drop (k + 1) bytes) n (stop_parts bytes k at) (number_is (take k bytes) n is) event
@@ -135,18 +136,20 @@ a_number bytes k event at (Some n) is e =
 a_stop : (bytes : List ℕ) (event : Event) (o : Option ℕ) → position is_stop bytes ≡ o → with_stop bytes o ≡ Some event
     → IsPlace event bytes
 a_stop bytes event None at e = absurd (cc)
-a_stop bytes event (Some k) at e = a_number bytes k event at (number_in (take k bytes)) refl e
+a_stop bytes event (Some k) at e = a_number bytes k event at (trace_number (take k bytes)) refl e
 
-packet_is : (bytes : List ℕ) (event : Event) → packet_in bytes ≡ Some event → IsPlace event bytes
+packet_is : (bytes : List ℕ) (event : Event) → packet_event bytes ≡ Some event → IsPlace event bytes
 packet_is bytes event e = a_stop bytes event (position is_stop bytes) refl e
 
 -- a number and a full stop are found
-packet_at : (n : ℕ) (digits place : List ℕ) → IsNumber n digits → packet_in (digits ++ 46 ∷ place) ≡ with_place place n
+packet_at : (n : ℕ) (digits place : List ℕ) → IsNumber n digits → packet_event (digits ++ 46 ∷ place)
+    ≡ event_with_place place n
 packet_at n digits place number =
     let bytes = digits ++ 46 ∷ place in
     ap (λ (o : Option ℕ). with_stop bytes o) (stop_found digits place number.decimal)
-    ∙ (λ i. with_number (drop-append-add digits (46 ∷ place) 1 i) (number_in (take-append_seam digits (46 ∷ place) i)))
-    ∙ ap (λ (o : Option ℕ). with_number place o) (number_found n digits number)
+    ∙ (λ i. event_with_number (drop-append-add digits (46 ∷ place) 1 i)
+    (trace_number (take-append_seam digits (46 ∷ place) i)))
+    ∙ ap (λ (o : Option ℕ). event_with_number place o) (number_found n digits number)
 
 false_of : (t : Bool) → (t ≡ true → ⊥) → t ≡ false
 false_of true none = absurd (none refl)
@@ -156,30 +159,30 @@ no_star : (place : List ℕ) → all_ascii_digits place ≡ true → place ≡ c
 no_star place all is = let e : all_ascii_digits (codes "*") ≡ true = subst (λ (l : List ℕ). all_ascii_digits l
     ≡ true) is all in cc
 
-with_place_at : (n i : ℕ) (place : List ℕ) → IsNumber i place → with_place place n ≡ Some (Packet n i)
+with_place_at : (n i : ℕ) (place : List ℕ) → IsNumber i place → event_with_place place n ≡ Some (Packet n i)
 with_place_at n i place number =
     let star : bytes_eq place (codes "*")
     ≡ false = false_of (bytes_eq place (codes "*"))
     (λ t. no_star place number.decimal ((bytes_eq-Decides place (codes "*")).0 t)) in
-    ap (λ (t : Bool). cond t (Some (All n)) (option_map (λ k. Packet n k) (number_in place))) star
+    ap (λ (t : Bool). cond t (Some (All n)) (option_map (λ k. Packet n k) (trace_number place))) star
     ∙ ap (λ (o : Option ℕ). option_map (λ k. Packet n k) o) (number_found i place number)
 
 -- parts of which the last is after the first
 word_after : (word rest front more : List ℕ) → rest ≡ front ++ more → front ≡ word → more ≡ [] → rest ≡ word
 word_after word rest front more parts is none = parts ∙ (λ i. is i ++ none i) ∙ append-nil word
 
-place_found : (event : Event) (bytes : List ℕ) → IsPlace event bytes → packet_in bytes ≡ Some event
+place_found : (event : Event) (bytes : List ℕ) → IsPlace event bytes → packet_event bytes ≡ Some event
 place_found Nothing bytes h = absurd h
 place_found Send bytes h = absurd h
 place_found (Packet n i) bytes (digits, rest, parts, is, (dot, after, more, stop, (digits2, none, all, is2, end))) =
     let place : after ≡ digits2 = all ∙ ap (λ (l : List ℕ). digits2 ++ l) end ∙ append-nil digits2 in
     let whole : bytes ≡ digits ++ 46 ∷ digits2 = parts ∙ ap (λ (l : List ℕ). digits ++ l) (more
     ∙ (λ j. stop j ++ place j)) in
-    ap packet_in whole ∙ packet_at n digits digits2 is ∙ with_place_at n i digits2 is2
+    ap packet_event whole ∙ packet_at n digits digits2 is ∙ with_place_at n i digits2 is2
 place_found (All n) bytes (digits, rest, parts, is, (dot, none, more, stop, end)) =
     let whole : bytes ≡ digits ++ 46 ∷ 42 ∷ [] = parts
     ∙ ap (λ (l : List ℕ). digits ++ l) (word_after (codes ".*") rest dot none more stop end) in
-    ap packet_in whole ∙ packet_at n digits (42 ∷ []) is
+    ap packet_event whole ∙ packet_at n digits (42 ∷ []) is
 place_found (Back message) bytes h = absurd h
 place_found Play bytes h = absurd h
 
@@ -218,7 +221,7 @@ module _ (line : List ℕ) (event : Event) where
   a_short true is e = is_empty is (cc)
   a_short false is e = a_send (bytes_eq line (codes "S")) refl e
 
-  back_line : (o : Option ℕ) → number_in (drop 2 line) ≡ o → line ≡ codes "B " ++ drop 2 line
+  back_line : (o : Option ℕ) → trace_number (drop 2 line) ≡ o → line ≡ codes "B " ++ drop 2 line
       → option_map (λ n. Back n) o ≡ Some event → IsLine event line
   back_line None is front e = absurd (cc)
   back_line (Some n) is front e =
@@ -233,13 +236,13 @@ module _ (line : List ℕ) (event : Event) where
       subst (λ (x : Event). IsLine x line) same spelled
 
   a_back : (t : Bool) → bytes_eq (take 2 line) (codes "B ") ≡ t
-      → cond t (option_map (λ n. Back n) (number_in (drop 2 line))) (short_in line) ≡ Some event → IsLine event line
-  a_back true is e = back_line (number_in (drop 2 line)) refl (begins line (codes "B ") is) e
+      → cond t (option_map (λ n. Back n) (trace_number (drop 2 line))) (short_in line) ≡ Some event → IsLine event line
+  a_back true is e = back_line (trace_number (drop 2 line)) refl (begins line (codes "B ") is) e
   a_back false is e = a_short (bytes_eq line (codes "")) refl e
 
   a_packet : (t : Bool) → bytes_eq (take 2 line) (codes "D ") ≡ t
-      → cond t (packet_in (drop 2 line)) (cond (bytes_eq (take 2 line) (codes "B "))
-      (option_map (λ n. Back n) (number_in (drop 2 line))) (short_in line)) ≡ Some event → IsLine event line
+      → cond t (packet_event (drop 2 line)) (cond (bytes_eq (take 2 line) (codes "B "))
+      (option_map (λ n. Back n) (trace_number (drop 2 line))) (short_in line)) ≡ Some event → IsLine event line
   a_packet true is e =
       subst (λ (l : List ℕ). IsLine event l) (sym (begins line (codes "D ") is))
       (place_line event (drop 2 line) (packet_is (drop 2 line) event e))
@@ -272,7 +275,7 @@ abbrev most : List Part → ℕ
 most [] = 0
 most (part ∷ parts) = most_of part + most parts
 
-part_len : (part : Part) (bytes : List ℕ) → IsPart part bytes → length bytes ≤ most_of part
+part_len : (part : Part) (bytes : List ℕ) → IsEventPart part bytes → length bytes ≤ most_of part
 part_len (Word word) bytes is = omega (arith, ap (λ (l : List ℕ). length l) is)
 part_len (Number n) bytes is = is.few
 
@@ -287,7 +290,7 @@ parts_len (part ∷ parts) bytes (front, rest, whole, is, h) =
       parts_len parts rest h,
     )
 
-event_len : (event : Event) → most (parts_of event) ≤ 17
+event_len : (event : Event) → most (line_parts event) ≤ 17
 event_len Nothing = lit≤ tt
 event_len Send = lit≤ tt
 event_len (Packet n i) = lit≤ tt
@@ -296,7 +299,7 @@ event_len (Back n) = lit≤ tt
 event_len Play = lit≤ tt
 
 spell_len : (event : Event) (line : List ℕ) → IsLine event line → length line ≤ 17
-spell_len event line h = omega (arith, parts_len (parts_of event) line h, event_len event)
+spell_len event line h = omega (arith, parts_len (line_parts event) line h, event_len event)
 
 none_or : (line : List ℕ) (o : Option Event) → event_in line ≡ o → 64 < length line → o ≡ None
 none_or line None is long = refl

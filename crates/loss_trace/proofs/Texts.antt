@@ -5,7 +5,8 @@ use Rattle.std.proofs.Math.Seq.{drop-append-add}
 use Rattle.std.proofs.Math.ListN.{drop_of_length-le}
 use Rattle.std.proofs.lemmas.List.Elements.{All-nil, All-cons, All-head, All-tail}
 use borrow.Author.Tests.{ltb-true, ltb-false, eqb-true, eqb-false}
-use Rattle.loss_trace.specs.Lines.{NoNewline, first_line, is_closed, later_lines, last_line, IsText}
+use Rattle.h263_outside.specs.Lines.{NoNewline}
+use Rattle.loss_trace.specs.Lines.{first_line, is_closed, later_lines, last_line, IsText}
 use Rattle.loss_trace.proofs.Firsts.{first_found, first_all}
 
 abbrev closed_text : List (List ℕ) → List ℕ

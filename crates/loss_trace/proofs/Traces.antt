@@ -4,22 +4,22 @@ use Rattle.loss_trace.specs.declared.event.Event.{Event}
 use Rattle.loss_trace.specs.declared.fault.TraceFault.TheVariants.{BadLine, TooMany}
 use Rattle.loss_trace.specs.Lines.{IsText, first_line, later_lines}
 use Rattle.loss_trace.specs.Reading.{event_in}
-use Rattle.loss_trace.specs.Trace.{Say, IsTrace, IsBad, events_from, fault_from, events_of, fault_of, trace_events, trace_fault}
+use Rattle.loss_trace.specs.Trace.{Say, IsTrace, IsBad, events_from, fault_from, events_of, first_trace_fault, trace_events, trace_fault}
 use Rattle.loss_trace.proofs.Spelled.{event_is, event_found}
 use Rattle.loss_trace.proofs.Texts.{begins, ends, before, no_lines}
 
 -- one step of the reading
-fault_step : (n at b : ℕ) (text : List ℕ) → fault_of (suc n) at (b ∷ text)
-    ≡ fault_from (event_in (first_line (b ∷ text))) at (fault_of n (at + 1) (later_lines (b ∷ text)))
-unfolding fault_of
+fault_step : (n at b : ℕ) (text : List ℕ) → first_trace_fault (suc n) at (b ∷ text)
+    ≡ fault_from (event_in (first_line (b ∷ text))) at (first_trace_fault n (at + 1) (later_lines (b ∷ text)))
+unfolding first_trace_fault
 fault_step n at b text = refl
 
-fault_full : (at b : ℕ) (text : List ℕ) → fault_of zero at (b ∷ text) ≡ Some (TooMany at)
-unfolding fault_of
+fault_full : (at b : ℕ) (text : List ℕ) → first_trace_fault zero at (b ∷ text) ≡ Some (TooMany at)
+unfolding first_trace_fault
 fault_full at b text = refl
 
-fault_end : (n at : ℕ) → fault_of n at [] ≡ None
-unfolding fault_of
+fault_end : (n at : ℕ) → first_trace_fault n at [] ≡ None
+unfolding first_trace_fault
 fault_end zero at = refl
 fault_end (suc n) at = refl
 
@@ -41,7 +41,7 @@ events_end (suc n) = refl
 record Passed (m at n : ℕ) (text : List ℕ) (events : List Event) (lines tail : List (List ℕ)) : Type 0 where
   pub rest : List ℕ
   pub is : IsText rest tail
-  pub fault : fault_of n at text ≡ fault_of m (at + length lines) rest
+  pub fault : first_trace_fault n at text ≡ first_trace_fault m (at + length lines) rest
   pub read : events_of n text ≡ events ++ events_of m rest
 
 first_of : (line first : List ℕ) (lines more : List (List ℕ)) → line ∷ lines ≡ first ∷ more → line ≡ first
@@ -61,7 +61,7 @@ passed m at n text [] [] tail size is says =
     record {
       rest = text;
       is = is;
-      fault = (λ i. fault_of (same i) (here i) text);
+      fault = (λ i. first_trace_fault (same i) (here i) text);
       read = ap (λ (k : ℕ). events_of k text) same;
     }
 passed m at n text [] (line ∷ lines) tail size is says = absurd says
@@ -82,8 +82,9 @@ passed m at (suc n) (b ∷ text) (event ∷ events) (line ∷ lines) tail size i
       rest = h.rest;
       is = h.is;
       fault = fault_step n at b text
-          ∙ ap (λ (o : Option Event). fault_from o at (fault_of n (at + 1) (later_lines (b ∷ text)))) said ∙ h.fault
-          ∙ ap (λ (k : ℕ). fault_of m k h.rest) place;
+          ∙ ap (λ (o : Option Event). fault_from o at (first_trace_fault n (at + 1) (later_lines (b ∷ text)))) said
+          ∙ h.fault
+          ∙ ap (λ (k : ℕ). first_trace_fault m k h.rest) place;
       read = events_step n b text
           ∙ ap (λ (o : Option Event). events_from o (events_of n (later_lines (b ∷ text)))) said
           ∙ ap (λ (l : List Event). event ∷ l) h.read;
@@ -96,25 +97,25 @@ empty_text (b ∷ text) is = let p = begins b text [] is in absurd (no_first (fi
 module _ (n m : ℕ) (text : List ℕ) (events : List Event) (lines : List (List ℕ)) (size : n ≡ length lines + m)
     (says : Say events lines) where
   -- all of it is read
-  pub all_read : (at : ℕ) → IsText text lines → (fault_of n at text ≡ None) × (events_of n text ≡ events)
+  pub all_read : (at : ℕ) → IsText text lines → (first_trace_fault n at text ≡ None) × (events_of n text ≡ events)
   all_read at is =
       let h = passed m at n text events lines [] size (subst (λ (l : List (List ℕ)). IsText text l)
       (sym (append-nil lines)) is) says in
       let none : h.rest ≡ [] = empty_text h.rest h.is in (
-        h.fault ∙ ap (λ (l : List ℕ). fault_of m (at + length lines) l) none ∙ fault_end m (at + length lines),
+        h.fault ∙ ap (λ (l : List ℕ). first_trace_fault m (at + length lines) l) none ∙ fault_end m (at + length lines),
         h.read ∙ ap (λ (l : List ℕ). events ++ events_of m l) none ∙ ap (λ (l : List Event). events ++ l) (events_end m)
             ∙ append-nil events,
       )
 
   module _ (at : ℕ) (line : List ℕ) (after : List (List ℕ)) (is : IsText text (lines ++ line ∷ after)) where
     stop_full : (k : ℕ) (rest : List ℕ) → k ≡ 0 → IsText rest (line ∷ after)
-        → (fault_of k (at + length lines) rest ≡ Some (TooMany (at + length lines))) × (events_of k rest ≡ [])
+        → (first_trace_fault k (at + length lines) rest ≡ Some (TooMany (at + length lines))) × (events_of k rest ≡ [])
     stop_full k [] zero_k is = absurd (no_first line after (ends (line ∷ after) is))
     stop_full zero (b ∷ rest) zero_k is = (fault_full (at + length lines) b rest, events_full (b ∷ rest))
     stop_full (suc k) (b ∷ rest) zero_k is = absurd (omega (arith, zero_k))
 
     -- a line too many is there
-    pub full : m ≡ 0 → (fault_of n at text ≡ Some (TooMany (at + length lines))) × (events_of n text ≡ events)
+    pub full : m ≡ 0 → (first_trace_fault n at text ≡ Some (TooMany (at + length lines))) × (events_of n text ≡ events)
     full none =
         let h = passed m at n text events lines (line ∷ after) size is says in
         let stop = stop_full m h.rest none h.is in
@@ -125,7 +126,7 @@ module _ (n m : ℕ) (text : List ℕ) (events : List Event) (lines : List (List
     none_said (Some event) said bad = absurd (bad event (event_is line event said))
 
     stop_bad : (k : ℕ) (rest : List ℕ) → 0 < k → IsBad line → IsText rest (line ∷ after)
-        → (fault_of k (at + length lines) rest ≡ Some (BadLine (at + length lines))) × (events_of k rest ≡ [])
+        → (first_trace_fault k (at + length lines) rest ≡ Some (BadLine (at + length lines))) × (events_of k rest ≡ [])
     stop_bad k [] some bad is = absurd (no_first line after (ends (line ∷ after) is))
     stop_bad zero (b ∷ rest) some bad is = absurd (omega (arith, some))
     stop_bad (suc k) (b ∷ rest) some bad is =
@@ -135,12 +136,12 @@ module _ (n m : ℕ) (text : List ℕ) (events : List Event) (lines : List (List
         ∙ none_said (event_in line) refl bad in (
           fault_step k (at + length lines) b rest
               ∙ ap (λ (o : Option Event). fault_from o (at + length lines)
-              (fault_of k (at + length lines + 1) (later_lines (b ∷ rest)))) said,
+              (first_trace_fault k (at + length lines + 1) (later_lines (b ∷ rest)))) said,
           events_step k b rest ∙ ap (λ (o : Option Event). events_from o (events_of k (later_lines (b ∷ rest)))) said,
         )
 
     -- a line that says nothing is there
-    pub bad : 0 < m → IsBad line → (fault_of n at text ≡ Some (BadLine (at + length lines)))
+    pub bad : 0 < m → IsBad line → (first_trace_fault n at text ≡ Some (BadLine (at + length lines)))
         × (events_of n text ≡ events)
     bad some says_none =
         let h = passed m at n text events lines (line ∷ after) size is says in
@@ -157,17 +158,17 @@ record Lined (n : ℕ) (text : List ℕ) : Type 0 where
 some_not_none : {A : Type 0} (x : A) (o : Option A) → o ≡ Some x → o ≡ None → ⊥
 some_not_none x o is none = cc
 
-line_step : (n at b : ℕ) (text : List ℕ) → ((at : ℕ) → fault_of n at (later_lines (b ∷ text)) ≡ None
-    → Lined n (later_lines (b ∷ text))) → fault_of (suc n) at (b ∷ text) ≡ None → (o : Option Event)
+line_step : (n at b : ℕ) (text : List ℕ) → ((at : ℕ) → first_trace_fault n at (later_lines (b ∷ text)) ≡ None
+    → Lined n (later_lines (b ∷ text))) → first_trace_fault (suc n) at (b ∷ text) ≡ None → (o : Option Event)
     → event_in (first_line (b ∷ text)) ≡ o → Lined (suc n) (b ∷ text)
 line_step n at b text more none None said =
-    absurd (some_not_none (BadLine at) (fault_of (suc n) at (b ∷ text)) (fault_step n at b text
-    ∙ ap (λ (o : Option Event). fault_from o at (fault_of n (at + 1) (later_lines (b ∷ text)))) said) none)
+    absurd (some_not_none (BadLine at) (first_trace_fault (suc n) at (b ∷ text)) (fault_step n at b text
+    ∙ ap (λ (o : Option Event). fault_from o at (first_trace_fault n (at + 1) (later_lines (b ∷ text)))) said) none)
 line_step n at b text more none (Some event) said =
     let rest = later_lines (b ∷ text) in
     let line = first_line (b ∷ text) in
     let h = more (at + 1) (sym (fault_step n at b text
-    ∙ ap (λ (o : Option Event). fault_from o at (fault_of n (at + 1) rest)) said) ∙ none) in
+    ∙ ap (λ (o : Option Event). fault_from o at (first_trace_fault n (at + 1) rest)) said) ∙ none) in
     let read : events_of (suc n) (b ∷ text) ≡ event ∷ events_of n rest = events_step n b text
     ∙ ap (λ (o : Option Event). events_from o (events_of n rest)) said in record {
       lines = line ∷ h.lines;
@@ -184,9 +185,9 @@ no_more n = record {
   few = omega arith;
 }
 
-lined : (n : ℕ) (text : List ℕ) (at : ℕ) → fault_of n at text ≡ None → Lined n text
+lined : (n : ℕ) (text : List ℕ) (at : ℕ) → first_trace_fault n at text ≡ None → Lined n text
 lined n [] at none = no_more n
-lined zero (b ∷ text) at none = absurd (some_not_none (TooMany at) (fault_of zero at (b ∷ text))
+lined zero (b ∷ text) at none = absurd (some_not_none (TooMany at) (first_trace_fault zero at (b ∷ text))
     (fault_full at b text) none)
 lined (suc n) (b ∷ text) at none = line_step n at b text (lined n (later_lines (b ∷ text))) none
     (event_in (first_line (b ∷ text))) refl
@@ -196,7 +197,7 @@ most_is : (n k : ℕ) → k ≤ n → n ≡ k + (n - k)
 most_is n k le = omega (arith, le)
 
 trace_read : (n : ℕ) (text : List ℕ) (events : List Event) (lines : List (List ℕ)) → IsText text lines
-    → Say events lines → length lines ≤ n → (fault_of n 1 text ≡ None) × (events_of n text ≡ events)
+    → Say events lines → length lines ≤ n → (first_trace_fault n 1 text ≡ None) × (events_of n text ≡ events)
 trace_read n text events lines is says few = all_read n (n - length lines) text events lines
     (most_is n (length lines) few) says 1 is
 

@@ -20,25 +20,25 @@ pub record IsNumber (n : ℕ) (digits : List ℕ) : Type 0 where
   pub value : digits_value 10 digits ≡ n
 
 -- bytes that spell a part
-abbrev pub IsPart : Part → List ℕ → Type 0
-IsPart (Word word) bytes = bytes ≡ word
-IsPart (Number n) bytes = IsNumber n bytes
+abbrev pub IsEventPart : Part → List ℕ → Type 0
+IsEventPart (Word word) bytes = bytes ≡ word
+IsEventPart (Number n) bytes = IsNumber n bytes
 
 -- bytes that spell parts, one after the other
 abbrev pub Spell : List Part → List ℕ → Type 0
 Spell [] bytes = bytes ≡ []
 Spell (part ∷ parts) bytes = (front : List ℕ)
-    × (rest : List ℕ) × (bytes ≡ front ++ rest) × IsPart part front × Spell parts rest
+    × (rest : List ℕ) × (bytes ≡ front ++ rest) × IsEventPart part front × Spell parts rest
 
 -- the parts of the line that says an event
-abbrev pub parts_of : Event → List Part
-parts_of Nothing = []
-parts_of Send = Word (codes "S") ∷ []
-parts_of (Packet number place) = Word (codes "D ") ∷ Number number ∷ Word (codes ".") ∷ Number place ∷ []
-parts_of (All number) = Word (codes "D ") ∷ Number number ∷ Word (codes ".*") ∷ []
-parts_of (Back message) = Word (codes "B ") ∷ Number message ∷ []
-parts_of Play = Word (codes "P") ∷ []
+abbrev pub line_parts : Event → List Part
+line_parts Nothing = []
+line_parts Send = Word (codes "S") ∷ []
+line_parts (Packet number place) = Word (codes "D ") ∷ Number number ∷ Word (codes ".") ∷ Number place ∷ []
+line_parts (All number) = Word (codes "D ") ∷ Number number ∷ Word (codes ".*") ∷ []
+line_parts (Back message) = Word (codes "B ") ∷ Number message ∷ []
+line_parts Play = Word (codes "P") ∷ []
 
 -- a line, without its newline, that says an event
 abbrev pub IsLine : Event → List ℕ → Type 0
-IsLine event line = Spell (parts_of event) line
+IsLine event line = Spell (line_parts event) line

@@ -1,9 +1,7 @@
 -- A text in lines: each ends with a newline, and the last may end with the text.
 use Rattle.std.specs.Prelude.{ℕ, ◌≢◌, ◌≡◌, ◌+◌, ◌≤◌, ◌==◌, nat_lt, min, Bool, List, [], ◌∷◌, ◌++◌, length, take, drop, Option, Some, All, if◌then◌else◌}
 use Rattle.std.specs.List.{flat_map}
-
-abbrev pub NoNewline : List ℕ → Type 0
-NoNewline bytes = All (λ b. b ≢ 10) bytes
+use Rattle.h263_outside.specs.Lines.{NoNewline}
 
 -- the bytes before the first newline
 abbrev pub first_line : List ℕ → List ℕ
@@ -37,7 +35,7 @@ pub record IsText (text : List ℕ) (lines : List (List ℕ)) : Type 0 where
   pub all : lines ≡ closed ++ last_line end
 
 -- what was taken when a read failed: no newline, and so no whole line
-pub record IsCut (rest : List ℕ) (left : Option (List ℕ)) : Type 0 where
+pub record IsTraceCut (rest : List ℕ) (left : Option (List ℕ)) : Type 0 where
   pub taken : ℕ
   pub within : taken ≤ length rest
   pub gone : left ≡ Some (drop taken rest)

@@ -7,29 +7,29 @@ use Rattle.loss_trace.specs.declared.event.Event.{Event}
 use Rattle.loss_trace.specs.declared.event.Event.TheVariants.{Nothing, Send, Packet, All, Back, Play}
 
 -- 1 to 7 decimal digits
-abbrev pub is_number : List ℕ → Bool
-is_number digits = nat_lt 0 (length digits) && nat_le (length digits) 7 && all_ascii_digits digits
+abbrev pub is_trace_number : List ℕ → Bool
+is_trace_number digits = nat_lt 0 (length digits) && nat_le (length digits) 7 && all_ascii_digits digits
 
 -- the number that they write
-abbrev pub number_in : List ℕ → Option ℕ
-number_in digits = if is_number digits then Some (digits_value 10 digits) else None
+abbrev pub trace_number : List ℕ → Option ℕ
+trace_number digits = if is_trace_number digits then Some (digits_value 10 digits) else None
 
 -- a packet's number and place, or all packets of a picture
-abbrev pub with_place : List ℕ → ℕ → Option Event
-with_place place number =
-    if bytes_eq place (codes "*") then Some (All number) else option_map (λ n. Packet number n) (number_in place)
+abbrev pub event_with_place : List ℕ → ℕ → Option Event
+event_with_place place number =
+    if bytes_eq place (codes "*") then Some (All number) else option_map (λ n. Packet number n) (trace_number place)
 
-abbrev pub with_number : List ℕ → Option ℕ → Option Event
-with_number place None = None
-with_number place (Some number) = with_place place number
+abbrev pub event_with_number : List ℕ → Option ℕ → Option Event
+event_with_number place None = None
+event_with_number place (Some number) = event_with_place place number
 
 -- a number and a place, with the first full stop between them
 abbrev pub with_stop : List ℕ → Option ℕ → Option Event
 with_stop bytes None = None
-with_stop bytes (Some stop) = with_number (drop (stop + 1) bytes) (number_in (take stop bytes))
+with_stop bytes (Some stop) = event_with_number (drop (stop + 1) bytes) (trace_number (take stop bytes))
 
-abbrev pub packet_in : List ℕ → Option Event
-packet_in bytes = with_stop bytes (position (λ b. b == 46) bytes)
+abbrev pub packet_event : List ℕ → Option Event
+packet_event bytes = with_stop bytes (position (λ b. b == 46) bytes)
 
 -- a line of one letter, or none
 abbrev pub short_in : List ℕ → Option Event
@@ -42,6 +42,6 @@ short_in line =
 -- the event that a line says, without its newline
 abbrev pub event_in : List ℕ → Option Event
 event_in line =
-    if bytes_eq (take 2 line) (codes "D ") then packet_in (drop 2 line)
-    else if bytes_eq (take 2 line) (codes "B ") then option_map (λ n. Back n) (number_in (drop 2 line))
+    if bytes_eq (take 2 line) (codes "D ") then packet_event (drop 2 line)
+    else if bytes_eq (take 2 line) (codes "B ") then option_map (λ n. Back n) (trace_number (drop 2 line))
     else short_in line

@@ -41,15 +41,15 @@ events_of (suc n) [] = []
 events_of (suc n) (b ∷ text) = events_from (event_in (first_line (b ∷ text))) (events_of n (later_lines (b ∷ text)))
 
 -- the first fault, where the lines are numbered from this one on
-unfoldable pub fault_of : ℕ → ℕ → List ℕ → Option TraceFault
-fault_of n line [] = None
-fault_of zero line (b ∷ text) = Some (TooMany line)
-fault_of (suc n) line (b ∷ text) =
-    fault_from (event_in (first_line (b ∷ text))) line (fault_of n (line + 1) (later_lines (b ∷ text)))
+unfoldable pub first_trace_fault : ℕ → ℕ → List ℕ → Option TraceFault
+first_trace_fault n line [] = None
+first_trace_fault zero line (b ∷ text) = Some (TooMany line)
+first_trace_fault (suc n) line (b ∷ text) =
+    fault_from (event_in (first_line (b ∷ text))) line (first_trace_fault n (line + 1) (later_lines (b ∷ text)))
 
 -- the events of a trace, and its first fault
 unfoldable pub trace_events : List ℕ → List Event
 trace_events text = events_of 16777216 text
 
 unfoldable pub trace_fault : List ℕ → Option TraceFault
-trace_fault text = fault_of 16777216 1 text
+trace_fault text = first_trace_fault 16777216 1 text

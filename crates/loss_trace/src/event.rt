@@ -1,6 +1,6 @@
 //! What one line of a trace says.
 ghost use Rattle.std.specs.Prelude.{◌≡◌, ◌<◌, ◌==◌, length, position, IfSome, MatchResult, Some, None};
-ghost use Rattle.loss_trace.specs.Reading.{number_in, with_place, packet_in, short_in, event_in};
+ghost use Rattle.loss_trace.specs.Reading.{trace_number, event_with_place, packet_event, short_in, event_in};
 
 /// One event of a call, or nothing. Pictures, the packets of each and the messages are numbered
 /// from 0.
@@ -29,8 +29,8 @@ const MOST_DIGITS: usize = 7;
 
 // The number that 1 to 7 decimal digits write.
 fn digits(bytes: &[u8]) -> Result<u32, BadLine>
-    ensures { MatchResult result (λ n. number_in bytes.now ≡ Some n) (λ _.
-        number_in bytes.now ≡ None) }
+    ensures { MatchResult result (λ n. trace_number bytes.now ≡ Some n) (λ _.
+        trace_number bytes.now ≡ None) }
 {
     if bytes.is_empty() || bytes.len() > MOST_DIGITS {
         return Err(BadLine);
@@ -55,8 +55,8 @@ fn stop_in(bytes: &[u8]) -> Option<usize>
 
 // The event of a packet of this picture, or of all of them.
 fn placed(number: u32, place: &[u8]) -> Result<Event, BadLine>
-    ensures { MatchResult result (λ event. with_place place.now number ≡ Some event) (λ _.
-        with_place place.now number ≡ None) }
+    ensures { MatchResult result (λ event. event_with_place place.now number ≡ Some event) (λ _.
+        event_with_place place.now number ≡ None) }
 {
     if place == b"*".as_slice() {
         return Ok(Event::All { number });
@@ -69,8 +69,8 @@ fn placed(number: u32, place: &[u8]) -> Result<Event, BadLine>
 
 // The event of a picture's number and a packet's place.
 fn packet(bytes: &[u8]) -> Result<Event, BadLine>
-    ensures { MatchResult result (λ event. packet_in bytes.now ≡ Some event) (λ _.
-        packet_in bytes.now ≡ None) }
+    ensures { MatchResult result (λ event. packet_event bytes.now ≡ Some event) (λ _.
+        packet_event bytes.now ≡ None) }
 {
     let Some(stop) = stop_in(bytes) else {
         return Err(BadLine);

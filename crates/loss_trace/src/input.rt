@@ -3,8 +3,8 @@ ghost use Rattle.std.specs.Prelude.{◌≡◌, ◌≢◌, ◌∷◌, [], List, �
 ghost use Rattle.h263_outside.specs.Desk.{OnlyReads, Rose};
 ghost use Rattle.h263_outside.specs.declared.desk.Role.{Role};
 ghost use Rattle.h263_outside.specs.declared.desk.Role.TheVariants.{Events};
-ghost use Rattle.loss_trace.specs.Input.{CameOf, IsWithin};
-ghost use Rattle.loss_trace.specs.Lines.{IsCut};
+ghost use Rattle.loss_trace.specs.Input.{CameOf, IsLengthWithin};
+ghost use Rattle.loss_trace.specs.Lines.{IsTraceCut};
 
 use h263_outside::{Desk, Failed, Role, laws as outside_laws};
 
@@ -48,11 +48,11 @@ pub fn read_byte<D: Desk>(desk: &mut D) -> Result<Option<u8>, Failed>
 pub fn read_line<D: Desk>(desk: &mut D, line: &mut [u8]) -> Result<Came, Failed>
     requires attached { (D.outside desk.old).attached Events ≡ true }
     requires size { length line.old ≡ 64 }
-    ensures within { IfOk result (λ came. IsWithin came 64) }
+    ensures within { IfOk result (λ came. IsLengthWithin came 64) }
     ensures told { (left : List ℕ) → (D.outside desk.old).left Events ≡ Some left
         → IfOk result (λ came. CameOf came left line.new ((D.outside desk.new).left Events)) }
     ensures cut { (left : List ℕ) → (D.outside desk.old).left Events ≡ Some left
-        → OnErr result (IsCut left ((D.outside desk.new).left Events)) }
+        → OnErr result (IsTraceCut left ((D.outside desk.new).left Events)) }
     ensures others { (r : Role)
         → r ≢ Events → (D.outside desk.new).left r ≡ (D.outside desk.old).left r }
     ensures cause { OnErr result

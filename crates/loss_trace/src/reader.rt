@@ -40,7 +40,7 @@ impl TraceReader {
     ghost use Rattle.h263_outside.specs.Desk.{Rose, OnlyReads};
     ghost use Rattle.h263_outside.specs.declared.desk.Role.{Role};
     ghost use Rattle.h263_outside.specs.declared.desk.Role.TheVariants.{Events};
-    ghost use Rattle.loss_trace.specs.Reader.{Moves, EventGives, BytesGive, Finds, FetchGives};
+    ghost use Rattle.loss_trace.specs.Reader.{MovesTrace, EventGives, BytesGive, FindsLine, FetchGives};
 
     /// A reader before the first line.
     pub fn new() -> TraceReader
@@ -59,7 +59,7 @@ impl TraceReader {
         requires { (D.outside desk.old).attached Events ≡ true }
         ensures gives { (rest : List ℕ) → (D.outside desk.old).left Events ≡ Some rest
             → EventGives result self.old rest self.new ((D.outside desk.new).left Events) }
-        ensures moves { Moves result self.old self.new }
+        ensures moves { MovesTrace result self.old self.new }
         ensures silent { self.old.ended ≡ true
             → (result ≡ Ok None) × (D.outside desk.new ≡ D.outside desk.old) }
         ensures cause { IsErrOf result TraceStop.Read
@@ -91,7 +91,7 @@ impl TraceReader {
         requires { (D.outside desk.old).attached Events ≡ true }
         ensures gives { (rest : List ℕ) → (D.outside desk.old).left Events ≡ Some rest
             → BytesGive result self.old rest buf.new self.new ((D.outside desk.new).left Events) }
-        ensures moves { Moves result self.old self.new }
+        ensures moves { MovesTrace result self.old self.new }
         ensures silent { self.old.ended ≡ true
             → (result ≡ Ok None) × (D.outside desk.new ≡ D.outside desk.old) }
         ensures cause { IsErrOf result TraceStop.Read
@@ -112,7 +112,7 @@ impl TraceReader {
         requires attached { (D.outside desk.old).attached Events ≡ true }
         requires size { length buf.old ≡ 64 }
         ensures within { IfOk result (λ found. IfSome found (λ line. line.len ≤ 64)) }
-        ensures finds { Finds result self.now }
+        ensures finds { FindsLine result self.now }
         ensures gives { (rest : List ℕ) → (D.outside desk.old).left Events ≡ Some rest
             → FetchGives result self.now rest buf.new ((D.outside desk.new).left Events) }
         ensures silent { self.now.ended ≡ true

@@ -23,8 +23,8 @@ use Rattle.h263_types.specs.declared.blocks.Block.{Block}
 use Rattle.block_layer.specs.Text.{intra_block, inter_block}
 use Rattle.block_layer.specs.Laws.{BlockLaws}
 use Rattle.macroblock_layer.specs.declared.reading.Lead.{Lead}
-use Rattle.macroblock_layer.specs.Text.{no_four, class_turn, lead_turn, lead, is_intra, quantiser, moved, is_within, in_reach, difference, vector, blocks, intra, inter, intra_mb, inter_mb, coded_mb, after_lead, mb}
-use Rattle.macroblock_layer.specs.Faults.{LeadFaults, CodedFaults, block_in, BlockFaults, MbFaults}
+use Rattle.macroblock_layer.specs.Text.{no_four, class_turn, lead_turn, lead, is_intra, quantiser, moved, is_within, allowed_in_reach, difference, vector, blocks, intra, inter, intra_mb, inter_mb, coded_mb, after_lead, mb}
+use Rattle.macroblock_layer.specs.Faults.{LeadFaults, CodedFaults, block_syntax, SixBlocksFaults, MbFaults}
 use Rattle.macroblock_layer.proofs.Leads.{lead_some, turn_productive, lead_productive}
 use Rattle.macroblock_layer.proofs.Productive.{quantiser_productive, difference_productive, vector_productive, intra_block_productive, inter_block_productive, mb_productive}
 
@@ -115,7 +115,8 @@ lead_faults tables = record {
 across_row : (reach : Reach) (predictor : Vector) (text : List Bool) (kind : FaultKind) (place : ℕ)
     → HasFault mvd text kind place → HasFault (vector reach predictor) text kind place
 unfolding vector difference
-across_row reach predictor text kind place h = fault_in_part difference (in_reach reach predictor) _ text kind place
+across_row reach predictor text kind place h = fault_in_part difference (allowed_in_reach reach predictor)
+    _ text kind place
     (fault_in_part mvd any _ text kind place h)
 
 along_row : TableLaws → (reach : Reach) (predictor : Vector) (x : ℤ) (a text : List Bool) (kind : FaultKind) (place : ℕ)
@@ -123,7 +124,7 @@ along_row : TableLaws → (reach : Reach) (predictor : Vector) (x : ℤ) (a text
     → HasFault (vector reach predictor) (a ++ text) kind (length a + place)
 unfolding vector difference
 along_row tables reach predictor x a text kind place spelt h =
-    fault_in_part difference (in_reach reach predictor) _ (a ++ text) kind (length a + place)
+    fault_in_part difference (allowed_in_reach reach predictor) _ (a ++ text) kind (length a + place)
     (fault_after_part mvd any _ x a text kind place tables.productive.mvd spelt refl
     (fault_in_part mvd any _ text kind place h))
 
@@ -133,7 +134,7 @@ unfolding difference Spells
 difference_spelt x y a b p q = (x, a, b, refl, p, refl, (y, b, [], sym (append-nil b), q, refl, (refl, refl)))
 
 out_of_reach : (reach : Reach) (predictor d : Vector) → is_within reach (moved predictor d) ≡ false
-    → in_reach reach predictor d ≡ Some faults.BadVector
+    → allowed_in_reach reach predictor d ≡ Some faults.BadVector
 out_of_reach reach predictor d e = rw e refl
 
 reach_row : TableLaws → (reach : Reach) (predictor : Vector) (x y : ℤ) (a b : List Bool) → Spells mvd x a
@@ -141,7 +142,8 @@ reach_row : TableLaws → (reach : Reach) (predictor : Vector) (x y : ℤ) (a b 
     → HasFault (vector reach predictor) (a ++ b) faults.BadVector 0
 unfolding vector
 reach_row tables reach predictor x y a b p q out =
-    fault_of_whole_part difference (in_reach reach predictor) _ (record { x = x; y = y }) (a ++ b) faults.BadVector
+    fault_of_whole_part difference (allowed_in_reach reach predictor) _ (record { x = x; y = y }) (a
+    ++ b) faults.BadVector
     (difference_productive tables) (difference_spelt x y a b p q) (out_of_reach reach predictor (record {
       x = x;
       y = y;
@@ -257,94 +259,98 @@ inter_block_row : (text : List Bool) (kind : FaultKind) (place : ℕ) → HasFau
 unfolding inter
 inter_block_row text kind place h = fault_in_part inter_block any _ text kind place h
 
-block_productive : BlockLaws → (is coded : Bool) → IsProductive (block_in is coded)
+block_productive : BlockLaws → (is coded : Bool) → IsProductive (block_syntax is coded)
 block_productive of_blocks true coded = intra_block_productive of_blocks coded
 block_productive of_blocks false coded = inter_block_productive of_blocks coded
 
 block_row_0 : BlockLaws → (is : Bool) (cbpy cbpc : ℕ) (text : List Bool) (kind : FaultKind) (place : ℕ)
-    → HasFault (block_in is (is_set cbpy 3)) text kind place
-    → HasFault (blocks (λ coded. block_in is coded) cbpy cbpc) text kind place
+    → HasFault (block_syntax is (is_set cbpy 3)) text kind place
+    → HasFault (blocks (λ coded. block_syntax is coded) cbpy cbpc) text kind place
 unfolding blocks
 block_row_0 of_blocks is cbpy cbpc text kind place h =
-    fault_in_part (block_in is (is_set cbpy 3)) any _ text kind place h
+    fault_in_part (block_syntax is (is_set cbpy 3)) any _ text kind place h
 
 block_row_1 : BlockLaws → (is : Bool) (cbpy cbpc : ℕ) (xa : Block) (a text : List Bool) (kind : FaultKind) (place : ℕ)
-    → Spells (block_in is (is_set cbpy 3)) xa a → HasFault (block_in is (is_set cbpy 2)) text kind place
-    → HasFault (blocks (λ coded. block_in is coded) cbpy cbpc) (a ++ text) kind (length a + place)
+    → Spells (block_syntax is (is_set cbpy 3)) xa a → HasFault (block_syntax is (is_set cbpy 2)) text kind place
+    → HasFault (blocks (λ coded. block_syntax is coded) cbpy cbpc) (a ++ text) kind (length a + place)
 unfolding blocks
 block_row_1 of_blocks is cbpy cbpc xa a text kind place sa h =
-    fault_after_part (block_in is (is_set cbpy 3)) any _ xa a text kind place
+    fault_after_part (block_syntax is (is_set cbpy 3)) any _ xa a text kind place
     (block_productive of_blocks is (is_set cbpy 3)) sa refl
-    (fault_in_part (block_in is (is_set cbpy 2)) any _ text kind place h)
+    (fault_in_part (block_syntax is (is_set cbpy 2)) any _ text kind place h)
 
 block_row_2 : BlockLaws → (is : Bool) (cbpy cbpc : ℕ) (xa xb : Block) (a b text : List Bool) (kind : FaultKind)
-    (place : ℕ) → Spells (block_in is (is_set cbpy 3)) xa a → Spells (block_in is (is_set cbpy 2)) xb b
-    → HasFault (block_in is (is_set cbpy 1)) text kind place
-    → HasFault (blocks (λ coded. block_in is coded) cbpy cbpc) (a ++ (b ++ text)) kind (length a + (length b + place))
+    (place : ℕ) → Spells (block_syntax is (is_set cbpy 3)) xa a → Spells (block_syntax is (is_set cbpy 2)) xb b
+    → HasFault (block_syntax is (is_set cbpy 1)) text kind place
+    → HasFault (blocks (λ coded. block_syntax is coded) cbpy cbpc) (a ++ (b ++ text)) kind
+    (length a + (length b + place))
 unfolding blocks
 block_row_2 of_blocks is cbpy cbpc xa xb a b text kind place sa sb h =
-    fault_after_part (block_in is (is_set cbpy 3)) any _ xa a (b ++ text) kind (length b + place)
+    fault_after_part (block_syntax is (is_set cbpy 3)) any _ xa a (b ++ text) kind (length b + place)
     (block_productive of_blocks is (is_set cbpy 3)) sa refl
-    (fault_after_part (block_in is (is_set cbpy 2)) any _ xb b text kind place
+    (fault_after_part (block_syntax is (is_set cbpy 2)) any _ xb b text kind place
     (block_productive of_blocks is (is_set cbpy 2)) sb refl
-    (fault_in_part (block_in is (is_set cbpy 1)) any _ text kind place h))
+    (fault_in_part (block_syntax is (is_set cbpy 1)) any _ text kind place h))
 
 block_row_3 : BlockLaws → (is : Bool) (cbpy cbpc : ℕ) (xa xb xc : Block) (a b c text : List Bool) (kind : FaultKind)
-    (place : ℕ) → Spells (block_in is (is_set cbpy 3)) xa a → Spells (block_in is (is_set cbpy 2)) xb b
-    → Spells (block_in is (is_set cbpy 1)) xc c → HasFault (block_in is (is_set cbpy 0)) text kind place
-    → HasFault (blocks (λ coded. block_in is coded) cbpy cbpc) (a ++ (b ++ (c ++ text))) kind
+    (place : ℕ) → Spells (block_syntax is (is_set cbpy 3)) xa a → Spells (block_syntax is (is_set cbpy 2)) xb b
+    → Spells (block_syntax is (is_set cbpy 1)) xc c → HasFault (block_syntax is (is_set cbpy 0)) text kind place
+    → HasFault (blocks (λ coded. block_syntax is coded) cbpy cbpc) (a ++ (b ++ (c ++ text))) kind
     (length a + (length b + (length c + place)))
 unfolding blocks
 block_row_3 of_blocks is cbpy cbpc xa xb xc a b c text kind place sa sb sc h =
-    fault_after_part (block_in is (is_set cbpy 3)) any _ xa a (b ++ (c ++ text)) kind (length b + (length c + place))
+    fault_after_part (block_syntax is (is_set cbpy 3)) any _ xa a (b ++ (c ++ text)) kind
+    (length b + (length c + place))
     (block_productive of_blocks is (is_set cbpy 3)) sa refl
-    (fault_after_part (block_in is (is_set cbpy 2)) any _ xb b (c ++ text) kind (length c + place)
+    (fault_after_part (block_syntax is (is_set cbpy 2)) any _ xb b (c ++ text) kind (length c + place)
     (block_productive of_blocks is (is_set cbpy 2)) sb refl
-    (fault_after_part (block_in is (is_set cbpy 1)) any _ xc c text kind place
+    (fault_after_part (block_syntax is (is_set cbpy 1)) any _ xc c text kind place
     (block_productive of_blocks is (is_set cbpy 1)) sc refl
-    (fault_in_part (block_in is (is_set cbpy 0)) any _ text kind place h)))
+    (fault_in_part (block_syntax is (is_set cbpy 0)) any _ text kind place h)))
 
 block_row_4 : BlockLaws → (is : Bool) (cbpy cbpc : ℕ) (xa xb xc xd : Block) (a b c d text : List Bool)
-    (kind : FaultKind) (place : ℕ) → Spells (block_in is (is_set cbpy 3)) xa a
-    → Spells (block_in is (is_set cbpy 2)) xb b → Spells (block_in is (is_set cbpy 1)) xc c
-    → Spells (block_in is (is_set cbpy 0)) xd d → HasFault (block_in is (is_set cbpc 1)) text kind place
-    → HasFault (blocks (λ coded. block_in is coded) cbpy cbpc) (a ++ (b ++ (c ++ (d ++ text)))) kind
+    (kind : FaultKind) (place : ℕ) → Spells (block_syntax is (is_set cbpy 3)) xa a
+    → Spells (block_syntax is (is_set cbpy 2)) xb b → Spells (block_syntax is (is_set cbpy 1)) xc c
+    → Spells (block_syntax is (is_set cbpy 0)) xd d → HasFault (block_syntax is (is_set cbpc 1)) text kind place
+    → HasFault (blocks (λ coded. block_syntax is coded) cbpy cbpc) (a ++ (b ++ (c ++ (d ++ text)))) kind
     (length a + (length b + (length c + (length d + place))))
 unfolding blocks
 block_row_4 of_blocks is cbpy cbpc xa xb xc xd a b c d text kind place sa sb sc sd h =
-    fault_after_part (block_in is (is_set cbpy 3)) any _ xa a (b ++ (c ++ (d ++ text))) kind
+    fault_after_part (block_syntax is (is_set cbpy 3)) any _ xa a (b ++ (c ++ (d ++ text))) kind
     (length b + (length c + (length d + place))) (block_productive of_blocks is (is_set cbpy 3)) sa refl
-    (fault_after_part (block_in is (is_set cbpy 2)) any _ xb b (c ++ (d ++ text)) kind (length c + (length d + place))
+    (fault_after_part (block_syntax is (is_set cbpy 2)) any _ xb b (c ++ (d ++ text)) kind
+    (length c + (length d + place))
     (block_productive of_blocks is (is_set cbpy 2)) sb refl
-    (fault_after_part (block_in is (is_set cbpy 1)) any _ xc c (d ++ text) kind (length d + place)
+    (fault_after_part (block_syntax is (is_set cbpy 1)) any _ xc c (d ++ text) kind (length d + place)
     (block_productive of_blocks is (is_set cbpy 1)) sc refl
-    (fault_after_part (block_in is (is_set cbpy 0)) any _ xd d text kind place
+    (fault_after_part (block_syntax is (is_set cbpy 0)) any _ xd d text kind place
     (block_productive of_blocks is (is_set cbpy 0)) sd refl
-    (fault_in_part (block_in is (is_set cbpc 1)) any _ text kind place h))))
+    (fault_in_part (block_syntax is (is_set cbpc 1)) any _ text kind place h))))
 
 block_row_5 : BlockLaws → (is : Bool) (cbpy cbpc : ℕ) (xa xb xc xd xe : Block) (a b c d e text : List Bool)
-    (kind : FaultKind) (place : ℕ) → Spells (block_in is (is_set cbpy 3)) xa a
-    → Spells (block_in is (is_set cbpy 2)) xb b → Spells (block_in is (is_set cbpy 1)) xc c
-    → Spells (block_in is (is_set cbpy 0)) xd d → Spells (block_in is (is_set cbpc 1)) xe e
-    → HasFault (block_in is (is_set cbpc 0)) text kind place
-    → HasFault (blocks (λ coded. block_in is coded) cbpy cbpc) (a ++ (b ++ (c ++ (d ++ (e ++ text))))) kind
+    (kind : FaultKind) (place : ℕ) → Spells (block_syntax is (is_set cbpy 3)) xa a
+    → Spells (block_syntax is (is_set cbpy 2)) xb b → Spells (block_syntax is (is_set cbpy 1)) xc c
+    → Spells (block_syntax is (is_set cbpy 0)) xd d → Spells (block_syntax is (is_set cbpc 1)) xe e
+    → HasFault (block_syntax is (is_set cbpc 0)) text kind place
+    → HasFault (blocks (λ coded. block_syntax is coded) cbpy cbpc) (a ++ (b ++ (c ++ (d ++ (e ++ text))))) kind
     (length a + (length b + (length c + (length d + (length e + place)))))
 unfolding blocks
 block_row_5 of_blocks is cbpy cbpc xa xb xc xd xe a b c d e text kind place sa sb sc sd se h =
-    fault_after_part (block_in is (is_set cbpy 3)) any _ xa a (b ++ (c ++ (d ++ (e ++ text)))) kind
+    fault_after_part (block_syntax is (is_set cbpy 3)) any _ xa a (b ++ (c ++ (d ++ (e ++ text)))) kind
     (length b + (length c + (length d + (length e + place)))) (block_productive of_blocks is (is_set cbpy 3)) sa
     refl
-    (fault_after_part (block_in is (is_set cbpy 2)) any _ xb b (c ++ (d ++ (e ++ text))) kind
+    (fault_after_part (block_syntax is (is_set cbpy 2)) any _ xb b (c ++ (d ++ (e ++ text))) kind
     (length c + (length d + (length e + place))) (block_productive of_blocks is (is_set cbpy 2)) sb refl
-    (fault_after_part (block_in is (is_set cbpy 1)) any _ xc c (d ++ (e ++ text)) kind (length d + (length e + place))
+    (fault_after_part (block_syntax is (is_set cbpy 1)) any _ xc c (d ++ (e ++ text)) kind
+    (length d + (length e + place))
     (block_productive of_blocks is (is_set cbpy 1)) sc refl
-    (fault_after_part (block_in is (is_set cbpy 0)) any _ xd d (e ++ text) kind (length e + place)
+    (fault_after_part (block_syntax is (is_set cbpy 0)) any _ xd d (e ++ text) kind (length e + place)
     (block_productive of_blocks is (is_set cbpy 0)) sd refl
-    (fault_after_part (block_in is (is_set cbpc 1)) any _ xe e text kind place
+    (fault_after_part (block_syntax is (is_set cbpc 1)) any _ xe e text kind place
     (block_productive of_blocks is (is_set cbpc 1)) se refl
-    (fault_in_part (block_in is (is_set cbpc 0)) any _ text kind place h)))))
+    (fault_in_part (block_syntax is (is_set cbpc 0)) any _ text kind place h)))))
 
-six_rows : BlockLaws → (is : Bool) (cbpy cbpc : ℕ) → BlockFaults is cbpy cbpc
+six_rows : BlockLaws → (is : Bool) (cbpy cbpc : ℕ) → SixBlocksFaults is cbpy cbpc
 six_rows of_blocks is cbpy cbpc = record {
   of_first = block_row_0 of_blocks is cbpy cbpc;
   of_second = block_row_1 of_blocks is cbpy cbpc;

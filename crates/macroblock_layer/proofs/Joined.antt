@@ -9,7 +9,7 @@ use Rattle.h263_bits.specs.Bits.{spelled}
 use Rattle.h263_bits.specs.Written.{Appends}
 use Rattle.h263_bits.proofs.SyntaxLaws.{length-spelled}
 use Rattle.code_tables.specs.Tables.{cbpy_text}
-use Rattle.macroblock_layer.specs.Written.{class_of, class_text, step_text, head_text}
+use Rattle.macroblock_layer.specs.Written.{class_of, class_text, step_text, mb_head_text}
 
 pub both_fit : (a b i j : ℕ) → a < 2 ^ i → b < 2 ^ j → a * 2 ^ j + b < 2 ^ (i + j)
 both_fit a b i j first second =
@@ -46,10 +46,10 @@ both_are n m first second a b is also = ap (λ (t : List Bool). t ++ spelled m s
 
 -- what stands before the vector and the blocks, part by part
 pub head_long : (kind : Kind) (quant new : ℕ) (intra : Bool) (cbpy cbpc : ℕ)
-    → length (head_text kind quant new intra cbpy cbpc)
+    → length (mb_head_text kind quant new intra cbpy cbpc)
     ≡ length (class_text kind (class_of intra (new == quant)) cbpc) + length (cbpy_text intra cbpy) + length
     (step_text quant new)
-unfolding head_text
+unfolding mb_head_text
 head_long kind quant new intra cbpy cbpc =
     let all = length-append (class_text kind (class_of intra (new == quant)) cbpc) (cbpy_text intra cbpy
     ++ step_text quant new) in

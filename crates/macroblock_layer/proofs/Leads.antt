@@ -4,7 +4,7 @@ use Rattle.std.specs.Prelude.{nat_lt, ◌==◌}
 use Rattle.std.specs.List.{list_all}
 use Rattle.h263_types.specs.declared.Kind.{Kind}
 use Rattle.h263_types.specs.declared.Kind.TheVariants as kinds
-use Rattle.h263_bits.specs.Syntax.{Turn, again, finally, any, done, Spells, IsProductive}
+use Rattle.h263_bits.specs.Syntax.{LoopTurn, again, finally, any, done, Spells, IsProductive}
 use Rattle.h263_bits.proofs.SyntaxLaws.{field_some, part_some, code_some, either_productive}
 use Rattle.code_tables.specs.declared.macroblock.Mcbpc.{Mcbpc}
 use Rattle.code_tables.specs.Mcbpc.{mcbpc, mcbpc_table, mcbpc_words, class_texts}
@@ -21,7 +21,7 @@ mcbpc_some : (kind : Kind) (m : Mcbpc) → Spells (mcbpc kind) m [] → ⊥
 unfolding mcbpc
 mcbpc_some kind m h = code_some (mcbpc_table kind) done m (words_some kind) h
 
-class_some : (kind : Kind) (t : Turn (Unit {0}) Lead) → Spells (class_turn kind) t [] → ⊥
+class_some : (kind : Kind) (t : LoopTurn (Unit {0}) Lead) → Spells (class_turn kind) t [] → ⊥
 unfolding class_turn
 class_some kind t h = part_some (mcbpc kind) no_four _ t (mcbpc_some kind) h
 
@@ -34,7 +34,7 @@ class_productive : (kind : Kind) → IsProductive (class_turn kind)
 unfolding class_turn mcbpc IsProductive
 class_productive kind = (λ x. tt, λ m. tt)
 
-abbrev skip_turn : Turn (Unit {0}) Lead
+abbrev skip_turn : LoopTurn (Unit {0}) Lead
 skip_turn = finally Skipped
 
 skip_productive : IsProductive (done (skip_turn))

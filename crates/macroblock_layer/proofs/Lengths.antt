@@ -19,8 +19,8 @@ use Rattle.code_tables.specs.Tables.{cbpy_texts, cbpy_text, magnitude_texts, mvd
 use Rattle.block_layer.specs.Text.{is_coded, intra_text, inter_text}
 use Rattle.block_layer.specs.Laws.{BlockLaws}
 use Rattle.macroblock_layer.specs.Text.{wrapped}
-use Rattle.macroblock_layer.specs.Written.{has_levels, cbpy_of, cbpc_of, class_of, cod_text, class_text, step_text, head_text, vector_text, blocks_text, intra_mb_text, inter_mb_text}
-use Rattle.macroblock_layer.specs.Laws.{AreShort}
+use Rattle.macroblock_layer.specs.Written.{has_levels, cbpy_of, cbpc_of, class_of, cod_text, class_text, step_text, mb_head_text, vector_text, blocks_text, intra_mb_text, inter_mb_text}
+use Rattle.macroblock_layer.specs.Laws.{AreMbsShort}
 
 -- words of a table of at most this many bits
 are_within : ℕ → List (List Bool) → Bool
@@ -96,8 +96,8 @@ step_short quant new = at (new == quant)
 
 -- what stands before the vector has 18 bits at most
 pub head_short : (kind : Kind) (quant new : ℕ) (intra : Bool) (cbpy cbpc : ℕ)
-    → length (head_text kind quant new intra cbpy cbpc) ≤ 18
-unfolding head_text
+    → length (mb_head_text kind quant new intra cbpy cbpc) ≤ 18
+unfolding mb_head_text
 head_short kind quant new intra cbpy cbpc =
     let class = class_of intra (new == quant) in
     omega (
@@ -164,19 +164,19 @@ inter_blocks_short of_blocks blocks whole =
 
 pub intra_mb_length : (kind : Kind) (quant new : ℕ) (blocks : List Block)
     → length (intra_mb_text kind quant new blocks)
-    ≡ length (head_text kind quant new true (cbpy_of is_coded blocks) (cbpc_of is_coded blocks)) + length
+    ≡ length (mb_head_text kind quant new true (cbpy_of is_coded blocks) (cbpc_of is_coded blocks)) + length
     (blocks_text intra_text blocks)
 unfolding intra_mb_text
-intra_mb_length kind quant new blocks = length-append (head_text kind quant new true (cbpy_of is_coded blocks)
+intra_mb_length kind quant new blocks = length-append (mb_head_text kind quant new true (cbpy_of is_coded blocks)
     (cbpc_of is_coded blocks)) (blocks_text intra_text blocks)
 
 pub inter_mb_length : (quant : ℕ) (predictor : Vector) (new : ℕ) (v : Vector) (blocks : List Block)
     → length (inter_mb_text quant predictor new v blocks)
-    ≡ length (head_text kinds.P quant new false (cbpy_of has_levels blocks) (cbpc_of has_levels blocks)) +
+    ≡ length (mb_head_text kinds.P quant new false (cbpy_of has_levels blocks) (cbpc_of has_levels blocks)) +
     (length (vector_text predictor v) + length (blocks_text inter_text blocks))
 unfolding inter_mb_text
 inter_mb_length quant predictor new v blocks =
-    let head = head_text kinds.P quant new false (cbpy_of has_levels blocks) (cbpc_of has_levels blocks) in
+    let head = mb_head_text kinds.P quant new false (cbpy_of has_levels blocks) (cbpc_of has_levels blocks) in
     omega (
       arith,
       length-append head (vector_text predictor v ++ blocks_text inter_text blocks),
@@ -206,7 +206,7 @@ inter_mb_short of_blocks quant predictor new v blocks whole =
     )
 
 -- how many bits the text of a macroblock has at most
-pub mb_short : BlockLaws → AreShort
+pub mb_short : BlockLaws → AreMbsShort
 mb_short of_blocks kind quant predictor Skip whole = omega arith
 mb_short of_blocks kind quant predictor (Intra new blocks) whole = intra_mb_short of_blocks kind quant new blocks whole
 mb_short of_blocks kind quant predictor (Inter new v blocks) whole =

@@ -12,8 +12,8 @@ use Rattle.block_layer.specs.Text.{inter_block, no_levels}
 use Rattle.block_layer.specs.Laws.{BlockLaws}
 use Rattle.macroblock_layer.specs.declared.reading.Lead.{Lead}
 use Rattle.macroblock_layer.specs.declared.reading.Lead.TheVariants.{Skipped, Coded}
-use Rattle.macroblock_layer.specs.Text.{is_intra, quantiser, difference, vector, block_of, intra, inter, blocks, intra_mb, inter_mb, coded_mb, after_lead, mb}
-use Rattle.macroblock_layer.specs.Laws.{AreProductive}
+use Rattle.macroblock_layer.specs.Text.{is_intra, quantiser, difference, vector, block_of_levels, intra, inter, blocks, intra_mb, inter_mb, coded_mb, after_lead, mb}
+use Rattle.macroblock_layer.specs.Laws.{AreMbsProductive}
 use Rattle.macroblock_layer.proofs.Leads.{lead_productive}
 
 pub quantiser_productive : TableLaws → (class : MbClass) (quant : ℕ) → IsProductive (quantiser class quant)
@@ -37,14 +37,14 @@ unfolding intra IsProductive
 intra_block_productive of_blocks coded = (of_blocks.productive.intra coded, λ levels. tt)
 
 with_levels : Syntax Block
-with_levels = part inter_block any λ levels. done (block_of levels)
+with_levels = part inter_block any λ levels. done (block_of_levels levels)
 
 with_levels_productive : BlockLaws → IsProductive with_levels
 unfolding with_levels IsProductive
 with_levels_productive of_blocks = (of_blocks.productive.inter, λ levels. tt)
 
 with_none : Syntax Block
-with_none = done (block_of no_levels)
+with_none = done (block_of_levels no_levels)
 
 with_none_productive : IsProductive with_none
 unfolding with_none IsProductive
@@ -90,7 +90,7 @@ after_productive tables of_blocks quant reach predictor (Coded class cbpc) = (
 )
 
 -- each part of a macroblock that is repeated takes a bit at least
-pub mb_productive : TableLaws → BlockLaws → AreProductive
+pub mb_productive : TableLaws → BlockLaws → AreMbsProductive
 unfolding mb IsProductive
 mb_productive tables of_blocks kind quant reach predictor = (
   lead_productive kind,

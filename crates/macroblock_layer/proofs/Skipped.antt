@@ -11,10 +11,10 @@ use Rattle.h263_bits.specs.Reading.{Bits, skip, number_at}
 use Rattle.h263_bits.specs.Syntax.{finally, reading}
 use Rattle.h263_bits.proofs.SyntaxLaws.{repeat-finally}
 use Rattle.macroblock_layer.specs.declared.reading.Lead.TheVariants.{Skipped}
-use Rattle.macroblock_layer.specs.Text.{is_skipped, lead_turn, lead, after_lead, mb}
+use Rattle.macroblock_layer.specs.Text.{begins_skipped, lead_turn, lead, after_lead, mb}
 
 -- the first bit, by its number
-pub first_skipped : (bits : List Bool) → 0 < length bits → eqb (number (take 1 bits)) 1 ≡ is_skipped kinds.P bits
+pub first_skipped : (bits : List Bool) → 0 < length bits → eqb (number (take 1 bits)) 1 ≡ begins_skipped kinds.P bits
 unfolding number
 first_skipped [] some = absurd (omega arith)
 first_skipped (true ∷ bits) some = refl
@@ -36,11 +36,12 @@ read_skipped : (quant : ℕ) (reach : Reach) (predictor : Vector) (at : ℕ) (re
 unfolding reading mb after_lead
 read_skipped quant reach predictor at rest = rw (lead_skipped at rest) refl
 
-pub skipped_is_read : (kind : Kind) (quant : ℕ) (reach : Reach) (predictor : Vector) (b : Bits) → is_skipped kind b.bits
+pub skipped_is_read : (kind : Kind) (quant : ℕ) (reach : Reach) (predictor : Vector) (b : Bits)
+    → begins_skipped kind b.bits
     ≡ true → reading (mb kind quant reach predictor) b ≡ Ok (Skip, skip 1 b)
 skipped_is_read kind quant reach predictor b e = each kind b.at b.bits e
   where
-    each : (kind : Kind) (at : ℕ) (bits : List Bool) → is_skipped kind bits ≡ true
+    each : (kind : Kind) (at : ℕ) (bits : List Bool) → begins_skipped kind bits ≡ true
         → reading (mb kind quant reach predictor) (record { at = at; bits = bits })
         ≡ Ok (Skip, skip 1 (record { at = at; bits = bits }))
     each kinds.I at bits e = absurd cc

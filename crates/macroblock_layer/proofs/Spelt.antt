@@ -15,7 +15,7 @@ use Rattle.h263_types.specs.declared.blocks.Mb.TheVariants as mbs
 use Rattle.h263_types.specs.Blocks.{IsQuant, IsComponent, IsVector, IsIntraBlock, IsInterBlock, IsIntraMb, IsInterMb, AreWhole}
 use Rattle.h263_types.specs.Vectors.{IsWithin}
 use Rattle.h263_bits.specs.Bits.{spelled, is_set}
-use Rattle.h263_bits.specs.Syntax.{Syntax, any, done, part, either, Turn, finally, Spells}
+use Rattle.h263_bits.specs.Syntax.{Syntax, any, done, part, either, LoopTurn, finally, Spells}
 use Rattle.h263_bits.proofs.SyntaxLaws.{spells_field, spells_part, spells_done, spells_last, spells_whole}
 use Rattle.code_tables.specs.declared.macroblock.MbClass.{MbClass}
 use Rattle.code_tables.specs.declared.macroblock.MbClass.TheVariants as classes
@@ -27,10 +27,10 @@ use Rattle.block_layer.specs.Text.{none_left, is_coded, intra_block, inter_block
 use Rattle.block_layer.specs.Laws.{BlockLaws}
 use Rattle.macroblock_layer.specs.declared.reading.Lead.{Lead}
 use Rattle.macroblock_layer.specs.declared.reading.Lead.TheVariants.{Skipped, Coded}
-use Rattle.macroblock_layer.specs.Text.{no_four, after_mcbpc, class_turn, lead_turn, lead, limited, quantiser, wrapped, moved, is_within, difference, in_reach, vector, block_of, intra, inter, blocks, intra_mb, inter_mb, coded_mb, after_lead, mb}
+use Rattle.macroblock_layer.specs.Text.{no_four, after_mcbpc, class_turn, lead_turn, lead, limited_quant, quantiser, wrapped, moved, is_within, difference, allowed_in_reach, vector, block_of_levels, intra, inter, blocks, intra_mb, inter_mb, coded_mb, after_lead, mb}
 use Rattle.macroblock_layer.proofs.Within.{component_of}
-use Rattle.macroblock_layer.specs.Written.{levels_at, has_levels, cbpy_of, cbpc_of, class_of, class_text, step_text, head_text, vector_text, blocks_text, intra_mb_text, inter_mb_text, IsNear}
-use Rattle.macroblock_layer.specs.Laws.{AreSpelt}
+use Rattle.macroblock_layer.specs.Written.{levels_at, has_levels, cbpy_of, cbpc_of, class_of, class_text, step_text, mb_head_text, vector_text, blocks_text, intra_mb_text, inter_mb_text, DquantReaches}
+use Rattle.macroblock_layer.specs.Laws.{AreMbsSpelt}
 
 -- ---- COD and MCBPC
 
@@ -41,7 +41,7 @@ one_vector true false cbpc = refl
 one_vector false true cbpc = refl
 one_vector false false cbpc = refl
 
-coded_turn : MbClass → ℕ → Turn (Unit {0}) Lead
+coded_turn : MbClass → ℕ → LoopTurn (Unit {0}) Lead
 coded_turn class cbpc = finally (Coded class cbpc)
 
 turn_spelt : TableLaws → (kind : Kind) (class : MbClass) (cbpc : ℕ) → IsInTable kind (Word class cbpc)
@@ -74,7 +74,7 @@ skip_spelt =
 
 -- ---- quantiser
 
-is_step : (quant new : ℕ) → IsNear quant new → (new ≡ quant → ⊥) → IsStep (pos new -ℤ pos quant)
+is_step : (quant new : ℕ) → DquantReaches quant new → (new ≡ quant → ⊥) → IsStep (pos new -ℤ pos quant)
 is_step quant new near other = at (cases_lt new quant)
   where
     at : (new < quant) ⊎ (quant ≤ new) → IsStep (pos new -ℤ pos quant)
@@ -92,7 +92,7 @@ is_step quant new near other = at (cases_lt new quant)
           | inr one ↦ inl (omega (arith, near.up, other))
         ])
 
-limited_same : (n : ℕ) → IsQuant n → limited (pos n) ≡ n
+limited_same : (n : ℕ) → IsQuant n → limited_quant (pos n) ≡ n
 limited_same n is =
     let some : eqb n 0 ≡ false = ne_eqb n 0 (λ (e : n ≡ 0). omega (arith, e, is.low)) in
     rw (some, le-ltb 31 n is.high) refl
@@ -100,13 +100,14 @@ limited_same n is =
 back : (quant new : ℕ) → pos quant +ℤ (pos new -ℤ pos quant) ≡ pos new
 back quant new = omega (arith, ints)
 
-changed : TableLaws → (quant new : ℕ) → IsQuant new → IsNear quant new → (new ≡ quant → ⊥)
-    → Spells (part dquant any λ step. done (limited (pos quant +ℤ step))) new (dquant_text (pos new -ℤ pos quant))
+changed : TableLaws → (quant new : ℕ) → IsQuant new → DquantReaches quant new → (new ≡ quant → ⊥)
+    → Spells (part dquant any λ step. done (limited_quant (pos quant +ℤ step))) new (dquant_text (pos new -ℤ pos quant))
 changed tables quant new is near other =
     let step : ℤ = pos new -ℤ pos quant in
-    let e : limited (pos quant +ℤ step) ≡ new = ap (λ (z : ℤ). limited z) (back quant new) ∙ limited_same new is in
+    let e : limited_quant (pos quant +ℤ step) ≡ new = ap (λ (z : ℤ). limited_quant z) (back quant new)
+    ∙ limited_same new is in
     spells_whole _ new (dquant_text step ++ []) (dquant_text step) (append-nil _)
-    (spells_part dquant any (λ step. done (limited (pos quant +ℤ step))) new step (dquant_text step) []
+    (spells_part dquant any (λ step. done (limited_quant (pos quant +ℤ step))) new step (dquant_text step) []
     (tables.spelt.dquant step (is_step quant new near other)) refl (subst (λ (n : ℕ). Spells (done n) new [])
     (sym e) (spells_done new)))
 
@@ -115,13 +116,13 @@ unfolding quantiser
 as_before true quant new e = subst (λ (n : ℕ). Spells (done n) new []) e (spells_done new)
 as_before false quant new e = subst (λ (n : ℕ). Spells (done n) new []) e (spells_done new)
 
-other_spelt : TableLaws → (test : Bool) (quant new : ℕ) → IsQuant new → IsNear quant new → (new ≡ quant → ⊥)
+other_spelt : TableLaws → (test : Bool) (quant new : ℕ) → IsQuant new → DquantReaches quant new → (new ≡ quant → ⊥)
     → Spells (quantiser (class_of test false) quant) new (dquant_text (pos new -ℤ pos quant))
 unfolding quantiser
 other_spelt tables true quant new is near other = changed tables quant new is near other
 other_spelt tables false quant new is near other = changed tables quant new is near other
 
-quantiser_spelt : TableLaws → (test : Bool) (quant new : ℕ) → IsQuant new → IsNear quant new
+quantiser_spelt : TableLaws → (test : Bool) (quant new : ℕ) → IsQuant new → DquantReaches quant new
     → Spells (quantiser (class_of test (new == quant)) quant) new (step_text quant new)
 unfolding step_text
 quantiser_spelt tables test quant new is near = at (new == quant) refl test
@@ -225,9 +226,9 @@ vector_spelt tables reach predictor v is within =
     let e = moved_back predictor v is in
     let test : is_within reach (moved predictor (between predictor v)) ≡ true = ap (λ (w : Vector). is_within reach w) e
     ∙ reached reach v within in
-    let free : in_reach reach predictor (between predictor v) ≡ None = rw test refl in
+    let free : allowed_in_reach reach predictor (between predictor v) ≡ None = rw test refl in
     spells_whole (vector reach predictor) v (vector_text predictor v ++ []) _ (append-nil _)
-    (spells_part difference (in_reach reach predictor) (λ d. done (moved predictor d)) v (between predictor v)
+    (spells_part difference (allowed_in_reach reach predictor) (λ d. done (moved predictor d)) v (between predictor v)
     (vector_text predictor v) [] (difference_spelt tables predictor v) free
     (subst (λ (w : Vector). Spells (done w) v []) (sym e) (spells_done v)))
 
@@ -238,7 +239,7 @@ intra_spelt : BlockLaws → (b : Block) → length b.levels ≡ 64 → IsIntraBl
 unfolding intra
 intra_spelt of_blocks b long is =
     spells_whole (intra (is_coded b.levels)) b (intra_text b.levels ++ []) _ (append-nil _)
-    (spells_part (intra_block (is_coded b.levels)) any (λ levels. done (block_of levels)) b b.levels
+    (spells_part (intra_block (is_coded b.levels)) any (λ levels. done (block_of_levels levels)) b b.levels
     (intra_text b.levels) [] (of_blocks.spelt.intra b long is) refl (spells_done b))
 
 inter_spelt : BlockLaws → (b : Block) → length b.levels ≡ 64 → IsInterBlock b
@@ -247,17 +248,19 @@ unfolding inter
 inter_spelt of_blocks b long is = at (none_left b.levels) refl
   where
     at : (t : Bool) → none_left b.levels ≡ t
-        → Spells (either (not t) (part inter_block any λ levels. done (block_of levels)) (done (block_of no_levels))) b
+        → Spells (either (not t) (part inter_block any λ levels. done (block_of_levels levels))
+        (done (block_of_levels no_levels))) b
         (inter_text b.levels)
     at true none =
         let zeros : b.levels ≡ no_levels = of_blocks.empty.levels b.levels long none in
-        let same : b ≡ block_of no_levels = ap block_of zeros in
-        spells_whole (done (block_of no_levels)) b [] (inter_text b.levels) (sym (of_blocks.empty.text b.levels none))
+        let same : b ≡ block_of_levels no_levels = ap block_of_levels zeros in
+        spells_whole (done (block_of_levels no_levels)) b [] (inter_text b.levels)
+        (sym (of_blocks.empty.text b.levels none))
         (subst (λ (c : Block). Spells (done c) b []) same (spells_done b))
     at false some =
-        spells_whole (part inter_block any λ levels. done (block_of levels)) b (inter_text b.levels
+        spells_whole (part inter_block any λ levels. done (block_of_levels levels)) b (inter_text b.levels
         ++ []) _ (append-nil _)
-        (spells_part inter_block any (λ levels. done (block_of levels)) b b.levels (inter_text b.levels) []
+        (spells_part inter_block any (λ levels. done (block_of_levels levels)) b b.levels (inter_text b.levels) []
         (of_blocks.spelt.inter b long is some) refl (spells_done b))
 
 -- the bits of a pattern
@@ -404,9 +407,9 @@ cbpc_low : (coded : List ℤ → Bool) (bs : List Block) → cbpc_of coded bs < 
 cbpc_low coded bs = (two_bits (coded (levels_at bs 4)) (coded (levels_at bs 5))).2
 
 intra_mb_spelt : TableLaws → BlockLaws → (kind : Kind) (quant : ℕ) (reach : Reach) (predictor : Vector) (new : ℕ)
-    (bs : List Block) → IsIntraMb new bs → IsNear quant new → AreWhole bs
+    (bs : List Block) → IsIntraMb new bs → DquantReaches quant new → AreWhole bs
     → Spells (mb kind quant reach predictor) (mbs.Intra new bs) (intra_mb_text kind quant new bs)
-unfolding mb after_lead intra_mb_text head_text
+unfolding mb after_lead intra_mb_text mb_head_text
 intra_mb_spelt tables of_blocks kind quant reach predictor new bs is near whole =
     let m : Mb = mbs.Intra new bs in
     let pattern : ℕ = cbpy_of is_coded bs in
@@ -426,9 +429,9 @@ intra_mb_spelt tables of_blocks kind quant reach predictor new bs is near whole 
     (class_text kind class cbpc) _ lead_at refl coded)
 
 inter_mb_spelt : TableLaws → BlockLaws → (quant : ℕ) (reach : Reach) (predictor : Vector) (new : ℕ) (v : Vector)
-    (bs : List Block) → IsInterMb new v bs → IsNear quant new → AreWhole bs → IsWithin reach v.x v.y
+    (bs : List Block) → IsInterMb new v bs → DquantReaches quant new → AreWhole bs → IsWithin reach v.x v.y
     → Spells (mb kinds.P quant reach predictor) (mbs.Inter new v bs) (inter_mb_text quant predictor new v bs)
-unfolding mb after_lead inter_mb_text head_text
+unfolding mb after_lead inter_mb_text mb_head_text
 inter_mb_spelt tables of_blocks quant reach predictor new v bs is near whole within =
     let m : Mb = mbs.Inter new v bs in
     let pattern : ℕ = cbpy_of has_levels bs in
@@ -456,7 +459,7 @@ skip_mb_spelt quant reach predictor =
     refl (spells_done mbs.Skip)
 
 -- what is written of a macroblock is a text of it, where its vector is in reach
-pub mb_written : TableLaws → BlockLaws → AreSpelt
+pub mb_written : TableLaws → BlockLaws → AreMbsSpelt
 mb_written tables of_blocks kinds.I quant reach predictor mbs.Skip is of near whole within = absurd of
 mb_written tables of_blocks kinds.P quant reach predictor mbs.Skip is of near whole within =
     skip_mb_spelt quant reach predictor

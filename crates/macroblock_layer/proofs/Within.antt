@@ -14,7 +14,7 @@ use Rattle.h263_types.specs.declared.blocks.Mb.{Mb}
 use Rattle.h263_types.specs.declared.blocks.Mb.TheVariants as mbs
 use Rattle.h263_types.specs.Blocks.{IsQuant, IsComponent, IsVector, IsIntraBlock, IsInterBlock, IsMb, IsOfKind}
 use Rattle.h263_bits.specs.Bits.{is_set}
-use Rattle.h263_bits.specs.Syntax.{Syntax, Turn, finally, either, Turns, Spells}
+use Rattle.h263_bits.specs.Syntax.{Syntax, LoopTurn, finally, either, Turns, Spells}
 use Rattle.h263_bits.proofs.SyntaxLaws.{stands_within}
 use Rattle.code_tables.specs.declared.macroblock.MbClass.{MbClass}
 use Rattle.code_tables.specs.declared.macroblock.MbClass.TheVariants as classes
@@ -24,7 +24,7 @@ use Rattle.code_tables.specs.Mcbpc.{mcbpc, mcbpc_table, mcbpc_words, class_texts
 use Rattle.block_layer.specs.Laws.{BlockLaws}
 use Rattle.macroblock_layer.specs.declared.reading.Lead.{Lead}
 use Rattle.macroblock_layer.specs.declared.reading.Lead.TheVariants.{Skipped, Coded}
-use Rattle.macroblock_layer.specs.Text.{after_mcbpc, class_turn, lead_turn, lead, is_intra, limited, quantiser, wrapped, vector, intra, inter, blocks, intra_mb, inter_mb, coded_mb, after_lead, mb}
+use Rattle.macroblock_layer.specs.Text.{after_mcbpc, class_turn, lead_turn, lead, is_intra, limited_quant, quantiser, wrapped, vector, intra, inter, blocks, intra_mb, inter_mb, coded_mb, after_lead, mb}
 
 -- ---- what stands first
 
@@ -47,7 +47,7 @@ unfolding Spells mcbpc
 word_intra m text h = subst (λ (w : Mcbpc). is_intra_word w ≡ true) (sym h.5.0)
     (stands_within is_intra_word (mcbpc_table kinds.I).list (h.0, h.1) all_intra h.3)
 
-abbrev ended : Lead → Turn (Unit {0}) Lead
+abbrev ended : Lead → LoopTurn (Unit {0}) Lead
 ended l = finally l
 
 after_intra : (m : Mcbpc) (l : Lead) → is_intra_word m ≡ true → ended l ≡ after_mcbpc m → LeadOfKind kinds.I l
@@ -69,7 +69,7 @@ lead_within kinds.I l text h = turns_intra h.0 tt l text h.1
 
 -- ---- quantiser and vector
 
-limited_within : (z : ℤ) → IsQuant (limited z)
+limited_within : (z : ℤ) → IsQuant (limited_quant z)
 limited_within (negsuc n) = record { low = omega arith; high = omega arith }
 limited_within (pos n) = at (n == 0) refl (nat_lt 31 n) refl
   where

@@ -75,42 +75,43 @@ pub record CodedFaults (quant : ℕ) (reach : Reach) (predictor : Vector) (class
       (a ++ (b ++ text)) kind (length a + (length b + place))
 
 -- a block of an intra macroblock, or of an inter macroblock
-abbrev pub block_in : Bool → Bool → Syntax Block
-block_in true coded = intra coded
-block_in false coded = inter coded
+abbrev pub block_syntax : Bool → Bool → Syntax Block
+block_syntax true coded = intra coded
+block_syntax false coded = inter coded
 
 -- the six blocks: the four of luma, left to right and top to bottom, Cb and Cr, each after the
 -- texts of those before it
-pub record BlockFaults (is : Bool) (cbpy cbpc : ℕ) : Type 0 where
+pub record SixBlocksFaults (is : Bool) (cbpy cbpc : ℕ) : Type 0 where
   pub of_first : (text : List Bool) (kind : FaultKind) (place : ℕ)
-      → HasFault (block_in is (is_set cbpy 3)) text kind place
-      → HasFault (blocks (λ coded. block_in is coded) cbpy cbpc) text kind place
+      → HasFault (block_syntax is (is_set cbpy 3)) text kind place
+      → HasFault (blocks (λ coded. block_syntax is coded) cbpy cbpc) text kind place
   pub of_second : (xa : Block) (a text : List Bool) (kind : FaultKind) (place : ℕ)
-      → Spells (block_in is (is_set cbpy 3)) xa a
-      → HasFault (block_in is (is_set cbpy 2)) text kind place
-      → HasFault (blocks (λ coded. block_in is coded) cbpy cbpc) (a ++ text) kind (length a + place)
+      → Spells (block_syntax is (is_set cbpy 3)) xa a
+      → HasFault (block_syntax is (is_set cbpy 2)) text kind place
+      → HasFault (blocks (λ coded. block_syntax is coded) cbpy cbpc) (a ++ text) kind (length a + place)
   pub of_third : (xa xb : Block) (a b text : List Bool) (kind : FaultKind) (place : ℕ)
-      → Spells (block_in is (is_set cbpy 3)) xa a → Spells (block_in is (is_set cbpy 2)) xb b
-      → HasFault (block_in is (is_set cbpy 1)) text kind place
-      → HasFault (blocks (λ coded. block_in is coded) cbpy cbpc) (a ++ (b ++ text)) kind (length a + (length b + place))
+      → Spells (block_syntax is (is_set cbpy 3)) xa a → Spells (block_syntax is (is_set cbpy 2)) xb b
+      → HasFault (block_syntax is (is_set cbpy 1)) text kind place
+      → HasFault (blocks (λ coded. block_syntax is coded) cbpy cbpc) (a ++ (b ++ text)) kind
+      (length a + (length b + place))
   pub of_fourth : (xa xb xc : Block) (a b c text : List Bool) (kind : FaultKind) (place : ℕ)
-      → Spells (block_in is (is_set cbpy 3)) xa a
-      → Spells (block_in is (is_set cbpy 2)) xb b → Spells (block_in is (is_set cbpy 1)) xc c
-      → HasFault (block_in is (is_set cbpy 0)) text kind place
-      → HasFault (blocks (λ coded. block_in is coded) cbpy cbpc)
+      → Spells (block_syntax is (is_set cbpy 3)) xa a
+      → Spells (block_syntax is (is_set cbpy 2)) xb b → Spells (block_syntax is (is_set cbpy 1)) xc c
+      → HasFault (block_syntax is (is_set cbpy 0)) text kind place
+      → HasFault (blocks (λ coded. block_syntax is coded) cbpy cbpc)
       (a ++ (b ++ (c ++ text))) kind (length a + (length b + (length c + place)))
   pub of_cb : (xa xb xc xd : Block) (a b c d text : List Bool) (kind : FaultKind) (place : ℕ)
-      → Spells (block_in is (is_set cbpy 3)) xa a → Spells (block_in is (is_set cbpy 2)) xb b
-      → Spells (block_in is (is_set cbpy 1)) xc c → Spells (block_in is (is_set cbpy 0)) xd d
-      → HasFault (block_in is (is_set cbpc 1)) text kind place
-      → HasFault (blocks (λ coded. block_in is coded) cbpy cbpc) (a ++ (b ++ (c ++ (d ++ text))))
+      → Spells (block_syntax is (is_set cbpy 3)) xa a → Spells (block_syntax is (is_set cbpy 2)) xb b
+      → Spells (block_syntax is (is_set cbpy 1)) xc c → Spells (block_syntax is (is_set cbpy 0)) xd d
+      → HasFault (block_syntax is (is_set cbpc 1)) text kind place
+      → HasFault (blocks (λ coded. block_syntax is coded) cbpy cbpc) (a ++ (b ++ (c ++ (d ++ text))))
       kind (length a + (length b + (length c + (length d + place))))
   pub of_cr : (xa xb xc xd xe : Block) (a b c d e text : List Bool) (kind : FaultKind) (place : ℕ)
-      → Spells (block_in is (is_set cbpy 3)) xa a
-      → Spells (block_in is (is_set cbpy 2)) xb b → Spells (block_in is (is_set cbpy 1)) xc c
-      → Spells (block_in is (is_set cbpy 0)) xd d → Spells (block_in is (is_set cbpc 1)) xe e
-      → HasFault (block_in is (is_set cbpc 0)) text kind place
-      → HasFault (blocks (λ coded. block_in is coded) cbpy cbpc)
+      → Spells (block_syntax is (is_set cbpy 3)) xa a
+      → Spells (block_syntax is (is_set cbpy 2)) xb b → Spells (block_syntax is (is_set cbpy 1)) xc c
+      → Spells (block_syntax is (is_set cbpy 0)) xd d → Spells (block_syntax is (is_set cbpc 1)) xe e
+      → HasFault (block_syntax is (is_set cbpc 0)) text kind place
+      → HasFault (blocks (λ coded. block_syntax is coded) cbpy cbpc)
       (a ++ (b ++ (c ++ (d ++ (e ++ text))))) kind
       (length a + (length b + (length c + (length d + (length e + place)))))
 
@@ -143,7 +144,7 @@ pub record MbFaults : Type 0 where
       (quant cbpy cbpc : ℕ) (a text : List Bool) (kind : FaultKind) (place : ℕ)
       → Spells (vector reach predictor) v a → HasFault (blocks inter cbpy cbpc) text kind place
       → HasFault (inter_mb reach predictor quant cbpy cbpc) (a ++ text) kind (length a + place)
-  pub six_blocks : (is : Bool) (cbpy cbpc : ℕ) → BlockFaults is cbpy cbpc
+  pub six_blocks : (is : Bool) (cbpy cbpc : ℕ) → SixBlocksFaults is cbpy cbpc
   -- a block's faults are the macroblock's: INTRADC and events, and an inter block's where its pattern bit is set
   pub of_intra_block : (coded : Bool) (text : List Bool) (kind : FaultKind) (place : ℕ)
       → HasFault (intra_block coded) text kind place → HasFault (intra coded) text kind place

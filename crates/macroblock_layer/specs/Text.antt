@@ -12,7 +12,7 @@ use Rattle.h263_bits.specs.declared.fault.Fault.{Fault}
 use Rattle.h263_bits.specs.declared.fault.FaultKind.TheVariants as faults
 use Rattle.h263_bits.specs.Bits.{is_set}
 use Rattle.h263_bits.specs.Reading.{Bits, first_fault}
-use Rattle.h263_bits.specs.Syntax.{Syntax, Allowed, Turn, again, finally, any, done, field, part, repeat, either, Spells, reading}
+use Rattle.h263_bits.specs.Syntax.{Syntax, Allowed, LoopTurn, again, finally, any, done, field, part, repeat, either, Spells, reading}
 use Rattle.code_tables.specs.declared.macroblock.MbClass.{MbClass}
 use Rattle.code_tables.specs.declared.macroblock.MbClass.TheVariants as classes
 use Rattle.code_tables.specs.declared.macroblock.Mcbpc.{Mcbpc}
@@ -31,23 +31,23 @@ no_four Stuffing = None
 no_four (Word classes.Inter4 n) = Some faults.FourVectors
 no_four (Word _ n) = None
 
-abbrev pub after_mcbpc : Mcbpc → Turn (Unit {0}) Lead
+abbrev pub after_mcbpc : Mcbpc → LoopTurn (Unit {0}) Lead
 after_mcbpc Stuffing = again tt
 after_mcbpc (Word class cbpc) = finally (Coded class cbpc)
 
-unfoldable pub class_turn : Kind → Syntax (Turn (Unit {0}) Lead)
+unfoldable pub class_turn : Kind → Syntax (LoopTurn (Unit {0}) Lead)
 class_turn kind = part (mcbpc kind) no_four λ m. done (after_mcbpc m)
 
 -- in P there is COD, and 1 is Skip; after stuffing it begins again
-unfoldable pub lead_turn : Kind → Unit {0} → Syntax (Turn (Unit {0}) Lead)
+unfoldable pub lead_turn : Kind → Unit {0} → Syntax (LoopTurn (Unit {0}) Lead)
 lead_turn kinds.I u = class_turn kinds.I
 lead_turn kinds.P u = field 1 any λ cod. either (cod == 1) (done (finally Skipped)) (class_turn kinds.P)
 
 -- whether the bits begin with a macroblock that isn't coded: one bit of COD, in P
-abbrev pub is_skipped : Kind → List Bool → Bool
-is_skipped kinds.I bits = false
-is_skipped kinds.P [] = false
-is_skipped kinds.P (cod ∷ bits) = cod
+abbrev pub begins_skipped : Kind → List Bool → Bool
+begins_skipped kinds.I bits = false
+begins_skipped kinds.P [] = false
+begins_skipped kinds.P (cod ∷ bits) = cod
 
 unfoldable pub lead : Kind → Syntax Lead
 lead kind = repeat tt (lead_turn kind)
@@ -60,14 +60,14 @@ is_intra classes.IntraQ = true
 is_intra _ = false
 
 -- limited to 1 to 31
-abbrev pub limited : ℤ → ℕ
-limited (negsuc n) = 1
-limited (pos n) = if n == 0 then 1 else (if nat_lt 31 n then 31 else n)
+abbrev pub limited_quant : ℤ → ℕ
+limited_quant (negsuc n) = 1
+limited_quant (pos n) = if n == 0 then 1 else (if nat_lt 31 n then 31 else n)
 
 -- the quantiser: as before in a plain class, changed by DQUANT in a Q class (5.3.6)
 unfoldable pub quantiser : MbClass → ℕ → Syntax ℕ
-quantiser classes.InterQ quant = part dquant any λ step. done (limited (pos quant +ℤ step))
-quantiser classes.IntraQ quant = part dquant any λ step. done (limited (pos quant +ℤ step))
+quantiser classes.InterQ quant = part dquant any λ step. done (limited_quant (pos quant +ℤ step))
+quantiser classes.IntraQ quant = part dquant any λ step. done (limited_quant (pos quant +ℤ step))
 quantiser _ quant = done quant
 
 -- modulo 64, into -32 to 31 (6.1.1)
@@ -96,22 +96,23 @@ difference =
     done (record { x = x; y = y })
 
 -- a vector out of reach is found with its last word, and stands at the first
-abbrev pub in_reach : Reach → Vector → Allowed Vector
-in_reach reach predictor d = if is_within reach (moved predictor d) then None else Some faults.BadVector
+abbrev pub allowed_in_reach : Reach → Vector → Allowed Vector
+allowed_in_reach reach predictor d = if is_within reach (moved predictor d) then None else Some faults.BadVector
 
 unfoldable pub vector : Reach → Vector → Syntax Vector
-vector reach predictor = part difference (in_reach reach predictor) λ d. done (moved predictor d)
+vector reach predictor = part difference (allowed_in_reach reach predictor) λ d. done (moved predictor d)
 
 -- ---- blocks
 
-abbrev pub block_of : List ℤ → Block
-block_of levels = record { levels = levels }
+abbrev pub block_of_levels : List ℤ → Block
+block_of_levels levels = record { levels = levels }
 
 unfoldable pub intra : Bool → Syntax Block
-intra coded = part (intra_block coded) any λ levels. done (block_of levels)
+intra coded = part (intra_block coded) any λ levels. done (block_of_levels levels)
 
 unfoldable pub inter : Bool → Syntax Block
-inter coded = either coded (part inter_block any λ levels. done (block_of levels)) (done (block_of no_levels))
+inter coded = either coded (part inter_block any λ levels. done (block_of_levels levels))
+    (done (block_of_levels no_levels))
 
 -- six blocks, the left bit of CBPY for the first, then CBPC
 unfoldable pub blocks : (Bool → Syntax Block) → ℕ → ℕ → Syntax (List Block)

@@ -60,8 +60,8 @@ unfoldable pub step_text : ℕ → ℕ → List Bool
 step_text quant new = if new == quant then [] else dquant_text (pos new -ℤ pos quant)
 
 -- what stands before the vector and the blocks
-unfoldable pub head_text : Kind → ℕ → ℕ → Bool → ℕ → ℕ → List Bool
-head_text kind quant new intra cbpy cbpc = class_text kind (class_of intra (new == quant)) cbpc
+unfoldable pub mb_head_text : Kind → ℕ → ℕ → Bool → ℕ → ℕ → List Bool
+mb_head_text kind quant new intra cbpy cbpc = class_text kind (class_of intra (new == quant)) cbpc
     ++ (cbpy_text intra cbpy ++ step_text quant new)
 
 -- the vector by its difference to the predictor, modulo 64 into -32 to 31 (H.263, 6.1.1)
@@ -76,13 +76,13 @@ blocks_text text (b ∷ blocks) = text b.levels ++ blocks_text text blocks
 -- ---- the whole text
 
 unfoldable pub intra_mb_text : Kind → ℕ → ℕ → List Block → List Bool
-intra_mb_text kind quant new blocks = head_text kind quant new true
+intra_mb_text kind quant new blocks = mb_head_text kind quant new true
     (cbpy_of is_coded blocks) (cbpc_of is_coded blocks) ++ blocks_text intra_text blocks
 
 -- an inter macroblock stands in P alone
 unfoldable pub inter_mb_text : ℕ → Vector → ℕ → Vector → List Block → List Bool
 inter_mb_text quant predictor new v blocks =
-    head_text kinds.P quant new false (cbpy_of has_levels blocks) (cbpc_of has_levels blocks)
+    mb_head_text kinds.P quant new false (cbpy_of has_levels blocks) (cbpc_of has_levels blocks)
     ++ (vector_text predictor v ++ blocks_text inter_text blocks)
 
 -- the text that is written of a macroblock, with the quantiser before it and its predictor
@@ -94,15 +94,15 @@ mb_text kind quant predictor (Inter new v blocks) = inter_mb_text quant predicto
 -- ---- what a macroblock that is written keeps to
 
 -- a quantiser that DQUANT reaches from the one before
-pub record IsNear (quant new : ℕ) : Type 0 where
+pub record DquantReaches (quant new : ℕ) : Type 0 where
   pub up : new ≤ quant + 2
   pub down : quant ≤ new + 2
 
 -- the macroblock's quantiser is within 2 of the one before it
 abbrev pub IsStepped : ℕ → Mb → Type 0
 IsStepped quant Skip = Unit {0}
-IsStepped quant (Intra new blocks) = IsNear quant new
-IsStepped quant (Inter new v blocks) = IsNear quant new
+IsStepped quant (Intra new blocks) = DquantReaches quant new
+IsStepped quant (Inter new v blocks) = DquantReaches quant new
 
 -- the macroblock's vector, if it has one, is in reach
 abbrev pub IsReached : Reach → Mb → Type 0

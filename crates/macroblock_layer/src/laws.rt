@@ -6,7 +6,7 @@ ghost use Rattle.h263_types.specs.declared.vector.Reach.{Reach};
 ghost use Rattle.h263_types.specs.declared.blocks.Mb.{Mb};
 ghost use Rattle.macroblock_layer.specs.Text.{IsMbText};
 ghost use Rattle.macroblock_layer.specs.Faults.{MbFaults};
-ghost use Rattle.macroblock_layer.specs.Laws.{AreSpelt, AreShort, MbLaws};
+ghost use Rattle.macroblock_layer.specs.Laws.{AreMbsSpelt, AreMbsShort, MbLaws};
 
 /// Of two texts of which one begins the other both are the same, and spell the same macroblock.
 pub fn one_reading()
@@ -20,7 +20,7 @@ pub fn one_reading()
 
 /// What is written of a macroblock is a text of it, where its vector, if it has one, is in reach.
 pub fn written_is_text()
-    ensures { AreSpelt }
+    ensures { AreMbsSpelt }
 {
     code_tables::laws::in_a_syntax();
     block_layer::laws::in_a_syntax();
@@ -37,7 +37,7 @@ pub fn first_faults()
 
 /// No text that is written of a macroblock has more than 8,492 bits.
 pub fn longest_text()
-    ensures { AreShort }
+    ensures { AreMbsShort }
 {
     block_layer::laws::in_a_syntax();
 }

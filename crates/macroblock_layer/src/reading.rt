@@ -1,15 +1,15 @@
 //! Reads a macroblock, from COD to its last block (H.263, 5.3).
 ghost use Rattle.std.specs.Prelude.{◌≡◌, ℕ, ℤ, List, Bool, ◌++◌, ◌≤ℤ◌, ◌+ℤ◌, pos, negsuc, true, false, Ok, IfOk, IsOkAnd};
 ghost use Rattle.h263_bits.specs.Reading.{Gives, Takes, first_fault};
-ghost use Rattle.h263_bits.specs.Syntax.{reading, Turn};
+ghost use Rattle.h263_bits.specs.Syntax.{reading, LoopTurn};
 ghost use Rattle.h263_types.specs.Blocks.{IsQuant, IsMb, IsOfKind};
 ghost use Rattle.h263_types.specs.declared.Kind.TheVariants as kinds;
 ghost use Rattle.h263_types.specs.declared.blocks.Mb.{Mb};
 ghost use Rattle.h263_types.specs.declared.blocks.Mb.TheVariants.{Skip};
 ghost use Rattle.h263_types.specs.declared.vector.Reach.{Reach};
 ghost use Rattle.h263_types.specs.declared.vector.Vector.{Vector};
-ghost use Rattle.macroblock_layer.specs.Text.{class_turn, lead_turn, is_skipped, lead, is_intra, quantiser, limited, difference, moved, wrapped, is_within_across, is_within_along, is_within, vector, intra, inter, blocks, intra_mb, inter_mb, coded_mb, after_lead, mb, IsMbText, macroblock_fault};
-ghost use Rattle.macroblock_layer.specs.Turns.{turn_of, IsIntraOf, IsInterOf, IsMovedOf, moved_mb};
+ghost use Rattle.macroblock_layer.specs.Text.{class_turn, lead_turn, begins_skipped, lead, is_intra, quantiser, limited_quant, difference, moved, wrapped, is_within_across, is_within_along, is_within, vector, intra, inter, blocks, intra_mb, inter_mb, coded_mb, after_lead, mb, IsMbText, macroblock_fault};
+ghost use Rattle.macroblock_layer.specs.Turns.{turn_after_lead, IsIntraOf, IsInterOf, IsMovedOf, moved_mb};
 ghost use Rattle.macroblock_layer.specs.declared.reading.Lead.{Lead};
 
 use crate::laws;
@@ -45,7 +45,7 @@ struct Pattern {
 #[tactic(auto, unfolding(crate::specs::Text::class_turn, h263_bits::specs::Syntax::reading))]
 #[inline(always)]
 fn read_class_turn(reader: &mut BitReader<'_>, kind: Kind) -> Result<Option<Lead>, Fault>
-    ensures { Gives turn_of result reader.new (reading (class_turn kind) reader.old) }
+    ensures { Gives turn_after_lead result reader.new (reading (class_turn kind) reader.old) }
 {
     let at = reader.at();
     match read_mcbpc(reader, kind)? {
@@ -61,7 +61,7 @@ fn read_class_turn(reader: &mut BitReader<'_>, kind: Kind) -> Result<Option<Lead
 // COD in P, and MCBPC; none for stuffing.
 #[tactic(auto, unfolding(crate::specs::Text::lead_turn, h263_bits::specs::Syntax::reading))]
 fn read_lead_turn(reader: &mut BitReader<'_>, kind: Kind) -> Result<Option<Lead>, Fault>
-    ensures { Gives turn_of result reader.new (reading (lead_turn kind tt) reader.old) }
+    ensures { Gives turn_after_lead result reader.new (reading (lead_turn kind tt) reader.old) }
 {
     match kind {
         Kind::I => read_class_turn(reader, Kind::I),
@@ -318,7 +318,7 @@ fn read_inter_mb(
 
 // The quantiser after a step, limited to 1 to 31.
 fn stepped(quant: u8, step: i8) -> u8
-    ensures { result ≡ limited (pos quant +ℤ step) }
+    ensures { result ≡ limited_quant (pos quant +ℤ step) }
 {
     let sum = quant as i16 + step as i16;
     if sum < 1 {
@@ -396,7 +396,7 @@ fn read_after_lead(
 
 // Whether a macroblock that isn't coded stands next.
 fn is_skipped(reader: &BitReader<'_>, kind: Kind) -> bool
-    ensures { result ≡ is_skipped kind reader.now.bits }
+    ensures { result ≡ begins_skipped kind reader.now.bits }
 {
     match kind {
         Kind::I => false,
@@ -413,7 +413,7 @@ fn is_skipped(reader: &BitReader<'_>, kind: Kind) -> bool
 /// itself, whatever the quantiser, the reach and the prediction are, so that these needn't be
 /// worked out.
 pub fn pass_skipped(reader: &mut BitReader<'_>, kind: Kind) -> bool
-    ensures value { result ≡ is_skipped kind reader.old.bits }
+    ensures value { result ≡ begins_skipped kind reader.old.bits }
     ensures skipped { result ≡ true → (quant : ℕ) (reach : Reach) (predictor : Vector)
         → reading (mb kind quant reach predictor) reader.old ≡ Ok (Skip, reader.new) }
     ensures coded { result ≡ false → reader.new ≡ reader.old }

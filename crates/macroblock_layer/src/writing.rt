@@ -11,9 +11,9 @@ ghost use Rattle.code_tables.specs.declared.macroblock.MbClass.{MbClass};
 ghost use Rattle.code_tables.specs.declared.macroblock.Mcbpc.TheVariants.{Word};
 ghost use Rattle.code_tables.specs.Mcbpc.{IsInTable};
 ghost use Rattle.code_tables.specs.Tables.{bit_of, cbpy_text};
-ghost use Rattle.block_layer.specs.Text.{none_left, is_coded, coded_in, intra_text, inter_text};
+ghost use Rattle.block_layer.specs.Text.{none_left, is_coded, is_block_coded, intra_text, inter_text};
 ghost use Rattle.macroblock_layer.specs.Text.{wrapped, IsMbText};
-ghost use Rattle.macroblock_layer.specs.Written.{levels_at, cbpy_of, cbpc_of, class_of, cod_text, class_text, step_text, head_text, vector_text, blocks_text, intra_mb_text, inter_mb_text, mb_text, IsNear, IsStepped, IsReached};
+ghost use Rattle.macroblock_layer.specs.Written.{levels_at, cbpy_of, cbpc_of, class_of, cod_text, class_text, step_text, mb_head_text, vector_text, blocks_text, intra_mb_text, inter_mb_text, mb_text, DquantReaches, IsStepped, IsReached};
 
 use crate::laws;
 use crate::reading::wrapped;
@@ -46,9 +46,9 @@ fn cbpc(a: bool, b: bool) -> u8
 // Which of the six blocks of a macroblock are coded, by their marks.
 fn pattern_by(intra: bool, marks: &[u64; 6]) -> Pattern
     ensures cbpy { (blocks : List Block)
-        → AreMarksOfFirst 6 blocks marks.now → result.cbpy ≡ cbpy_of (coded_in intra) blocks }
+        → AreMarksOfFirst 6 blocks marks.now → result.cbpy ≡ cbpy_of (is_block_coded intra) blocks }
     ensures cbpc { (blocks : List Block)
-        → AreMarksOfFirst 6 blocks marks.now → result.cbpc ≡ cbpc_of (coded_in intra) blocks }
+        → AreMarksOfFirst 6 blocks marks.now → result.cbpc ≡ cbpc_of (is_block_coded intra) blocks }
     ensures cbpy_below { result.cbpy < 16 }
     ensures cbpc_below { result.cbpc < 4 }
 {
@@ -109,7 +109,7 @@ fn class_number(kind: Kind, class: MbClass, cbpc: u8) -> (u32, u32)
 fn write_step(writer: &mut BitWriter<'_>, quant: u8, new: u8)
     requires quant { quant ≤ 31 }
     requires new { new ≤ 31 }
-    requires near { IsNear quant new }
+    requires near { DquantReaches quant new }
     requires room { len_of writer.old + length (step_text quant new) ≤ room_of writer.old }
     ensures bits { Appends writer.old writer.new (step_text quant new) }
     ensures len { len_of writer.new ≡ len_of writer.old + length (step_text quant new) }
@@ -119,7 +119,7 @@ fn write_step(writer: &mut BitWriter<'_>, quant: u8, new: u8)
     }
 }
 
-#[tactic(auto, unfolding(crate::specs::Written::head_text))]
+#[tactic(auto, unfolding(crate::specs::Written::mb_head_text))]
 fn write_head(
     writer: &mut BitWriter<'_>,
     kind: Kind,
@@ -130,15 +130,15 @@ fn write_head(
 )
     requires quant { quant ≤ 31 }
     requires new { new ≤ 31 }
-    requires near { IsNear quant new }
+    requires near { DquantReaches quant new }
     requires table { IsInTable kind (Word (class_of intra (new == quant)) pattern.cbpc) }
     requires cbpy { pattern.cbpy < 16 }
     requires room { len_of writer.old
-        + length (head_text kind quant new intra pattern.cbpy pattern.cbpc) ≤ room_of writer.old }
+        + length (mb_head_text kind quant new intra pattern.cbpy pattern.cbpc) ≤ room_of writer.old }
     ensures bits { Appends writer.old writer.new
-        (head_text kind quant new intra pattern.cbpy pattern.cbpc) }
+        (mb_head_text kind quant new intra pattern.cbpy pattern.cbpc) }
     ensures len { len_of writer.new
-        ≡ len_of writer.old + length (head_text kind quant new intra pattern.cbpy pattern.cbpc) }
+        ≡ len_of writer.old + length (mb_head_text kind quant new intra pattern.cbpy pattern.cbpc) }
 {
     let (first, n) = class_number(kind, class(intra, new == quant), pattern.cbpc);
     let (second, m) = cbpy_number(intra, pattern.cbpy);
@@ -219,7 +219,7 @@ fn write_intra_mb(
     requires mb { IsIntraMb new blocks.now }
     requires marks { AreMarksOfFirst 6 blocks.now marks.now }
     requires whole { AreWhole blocks.now }
-    requires near { IsNear quant new }
+    requires near { DquantReaches quant new }
     requires room { len_of writer.old + 8492 ≤ room_of writer.old }
     ensures bits { Appends writer.old writer.new (intra_mb_text kind quant new blocks.now) }
     ensures len { len_of writer.new
@@ -245,7 +245,7 @@ fn write_inter_mb(
     requires mb { IsInterMb new vector blocks.now }
     requires marks { AreMarksOfFirst 6 blocks.now marks.now }
     requires whole { AreWhole blocks.now }
-    requires near { IsNear quant new }
+    requires near { DquantReaches quant new }
     requires room { len_of writer.old + 8492 ≤ room_of writer.old }
     ensures bits { Appends writer.old writer.new
         (inter_mb_text quant predictor new vector blocks.now) }

@@ -14,8 +14,8 @@ use Rattle.call_model.specs.IdealCall.{AllMayHappen, AllMayHappenFrom, Arrival, 
 use Rattle.call_model.specs.Numbers.{AllBelowIs, all_below}
 use Rattle.loss_trace.specs.declared.event.Event.{Event as Line}
 use Rattle.loss_trace.specs.declared.event.Event.TheVariants as line
-use Rattle.make_input.specs.Expanded.{SendsSlices, expanded, line_events, onto}
-use Rattle.make_input.specs.Trace.{after_plays, deliveries, draw, frame_lines, frames_from, last_line, made_trace, messages, next_state, plays}
+use Rattle.make_input.specs.Expanded.{SendsSlices, expanded, expanded_events, events_onto}
+use Rattle.make_input.specs.Trace.{after_plays, deliveries, draw, frame_lines, frames_from, last_play, made_trace, messages, next_state, plays}
 
 -- ---- how many of a row pass a test
 
@@ -395,7 +395,7 @@ module _ {Style Mb Picture : Type 0} (pictures : Pictures Style Mb Picture) (rul
       }
 
   deliver_all : AllBelowIs → (frames : ℕ) → 4 ≤ rules.half → (js : List ℕ) (past : List Event) (p k n : ℕ) → n ≡ p + k
-      → k ≤ 1 → Good frames past p (suc k) → Good frames (onto (map (Deliver n) js) past) p (suc k)
+      → k ≤ 1 → Good frames past p (suc k) → Good frames (events_onto (map (Deliver n) js) past) p (suc k)
   deliver_all below frames half [] past p k n at small g = g
   deliver_all below frames half (j ∷ js) past p k n at small g = deliver_all below frames half js
       (Deliver n j ∷ past) p k n at small (deliver_good below frames half past p k n j at small g)
@@ -434,7 +434,7 @@ module _ {Style Mb Picture : Type 0} (pictures : Pictures Style Mb Picture) (rul
   Ends frames past lines = AllMayHappenFrom pictures rules source frames (expanded pictures rules source past lines)
 
   line_ends : (frames : ℕ) (past : List Event) (l : Line) (rest : List Line)
-      → Ends frames (onto (line_events (call_at past) l) past) rest → Ends frames past (l ∷ rest)
+      → Ends frames (events_onto (expanded_events (call_at past) l) past) rest → Ends frames past (l ∷ rest)
   unfolding expanded
   line_ends frames past l rest h = h
 
@@ -454,7 +454,7 @@ module _ {Style Mb Picture : Type 0} (pictures : Pictures Style Mb Picture) (rul
   deliver_lines below frames half p k n at small _ rest (all lines more) onward past g =
       line_ends frames past (line.All n) (lines ++ rest)
       (deliver_lines below frames half p k n at small lines rest more onward
-      (onto (line_events (call_at past) (line.All n)) past)
+      (events_onto (expanded_events (call_at past) (line.All n)) past)
       (deliver_all below frames half (range_with_len 0 (length (slices_at (call_at past).coded n))) past p k n at small
       g))
 
@@ -499,12 +499,12 @@ module _ {Style Mb Picture : Type 0} (pictures : Pictures Style Mb Picture) (rul
   -- this many frames from frame n on, and the last line
   frames_end : AllBelowIs → (frames : ℕ) → SendsSlices pictures rules source frames → 4 ≤ rules.half
       → (some n state : ℕ) → n + some ≡ frames → (past : List Event) → Before frames past n
-      → Ends frames past (frames_from some n state ++ last_line frames)
+      → Ends frames past (frames_from some n state ++ last_play frames)
   unfolding frames_from
   frames_end below frames sends half zero n state sum past g = last_ends n (omega arith) past g
     where
       last_ends : (n : ℕ) → n ≡ frames → (past : List Event) → Before frames past n
-          → Ends frames past (last_line frames)
+          → Ends frames past (last_play frames)
       last_ends zero e past g =
           let no_frame : nat_lt 0 frames ≡ false = rw (← e) refl in
           rw no_frame (no_lines frames past g.near)
@@ -514,11 +514,11 @@ module _ {Style Mb Picture : Type 0} (pictures : Pictures Style Mb Picture) (rul
           (no_lines frames (Play ∷ past) (play_good frames past m 0 (omega arith) g).near))
   frames_end below frames sends half (suc some) n state sum past g =
       let next : n + 1 ≡ suc n = omega arith in
-      let rest = frames_from some (suc n) (after_plays n (next_state state)) ++ last_line frames in
+      let rest = frames_from some (suc n) (after_plays n (next_state state)) ++ last_play frames in
       rw (
         next,
         append_assoc (frame_lines n state) (frames_from some (suc n) (after_plays n (next_state state)))
-            (last_line frames),
+            (last_play frames),
       )
       (frame_ends below frames sends half n state rest (omega arith)
       (λ later behind. frames_end below frames sends half some (suc n) (after_plays n (next_state state))

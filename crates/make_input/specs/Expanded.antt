@@ -8,25 +8,26 @@ use Rattle.call_model.specs.CodedPictures.{Coded}
 use Rattle.call_model.specs.IdealCall.{Call, Event, Source, Send, Deliver, Play, Back, call_from, slices_at}
 
 -- these events onto the events before them, of which the newest is the first
-abbrev pub onto : List Event → List Event → List Event
-onto [] past = past
-onto (e ∷ events) past = onto events (e ∷ past)
+abbrev pub events_onto : List Event → List Event → List Event
+events_onto [] past = past
+events_onto (e ∷ events) past = events_onto events (e ∷ past)
 
 -- the events of a line after a call; a line that delivers all packets of a picture delivers them in their order
-abbrev pub line_events : {Style Mb Picture : Type 0} → Call Style Mb Picture → Line → List Event
-line_events c line.Nothing = []
-line_events c line.Send = Send ∷ []
-line_events c (line.Packet n i) = Deliver n i ∷ []
-line_events c (line.All n) = map (Deliver n) (range_with_len 0 (length (slices_at c.coded n)))
-line_events c (line.Back k) = Back k ∷ []
-line_events c line.Play = Play ∷ []
+abbrev pub expanded_events : {Style Mb Picture : Type 0} → Call Style Mb Picture → Line → List Event
+expanded_events c line.Nothing = []
+expanded_events c line.Send = Send ∷ []
+expanded_events c (line.Packet n i) = Deliver n i ∷ []
+expanded_events c (line.All n) = map (Deliver n) (range_with_len 0 (length (slices_at c.coded n)))
+expanded_events c (line.Back k) = Back k ∷ []
+expanded_events c line.Play = Play ∷ []
 
 module _ {Style Mb Picture : Type 0}
     (pictures : Pictures Style Mb Picture) (rules : Rules) (source : Source Style Mb Picture) where
   -- the events of these lines after others, the newest first
   unfoldable pub expanded : List Event → List Line → List Event
   expanded past [] = past
-  expanded past (l ∷ lines) = expanded (onto (line_events (call_from pictures rules source past) l) past) lines
+  expanded past (l ∷ lines) = expanded (events_onto (expanded_events (call_from pictures rules source past) l) past)
+      lines
 
   -- after any events a picture with a slice can be sent, until there were this many
   abbrev pub SendsSlices : ℕ → Type 0

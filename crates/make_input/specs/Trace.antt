@@ -48,9 +48,9 @@ frames_from zero n state = []
 frames_from (suc frames) n state = frame_lines n state ++ frames_from frames (n + 1) (after_plays n (next_state state))
 
 -- after the last frame its picture is played
-abbrev pub last_line : ℕ → List Event
-last_line frames = if nat_lt 0 frames then Play ∷ [] else []
+abbrev pub last_play : ℕ → List Event
+last_play frames = if nat_lt 0 frames then Play ∷ [] else []
 
 -- the whole trace
 abbrev pub made_trace : ℕ → ℕ → List Event
-made_trace seed frames = frames_from frames 0 seed ++ last_line frames
+made_trace seed frames = frames_from frames 0 seed ++ last_play frames

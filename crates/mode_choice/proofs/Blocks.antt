@@ -13,9 +13,9 @@ use Rattle.h263_planes.specs.Picture.{Picture}
 use Rattle.h263_planes.specs.Samples.{sample_at}
 use Rattle.half_sample.specs.declared.macroblock.Predicted.{Predicted}
 use Rattle.half_sample.specs.Macroblock.{IsPredicted}
-use Rattle.half_sample.specs.Prediction.{ArePredicted, predicted_sample, moved, whole_part}
+use Rattle.half_sample.specs.Prediction.{ArePredicted, predicted_sample, moved_whole, whole_part}
 use Rattle.motion_search.specs.Cost as luma
-use Rattle.mode_choice.specs.Choice.{predicted_in_block, residuals_of, sample_in_block, samples_of}
+use Rattle.mode_choice.specs.Choice.{predicted_in_block, residuals_of, sample_in_block, samples_of_block}
 use Rattle.mode_choice.specs.Residuals.{predicted_at}
 
 -- the predicted samples of a block of luma, where they stand in those of the macroblock
@@ -58,8 +58,8 @@ six_predicted p mb r v samples is (suc (suc (suc (suc (suc (suc b)))))) k hb hk 
 pub square_is_block : (p : Picture) (mb b : ℕ) (corner : Corner) (plane : Plane) (samples : List ℤ)
     → corner ≡ corner_of p.format mb b → corner.plane ≡ plane → length samples ≡ 64 →
     ((k : ℕ) → k < 64 → get_or samples k (pos 0) ≡ pos (sample_at p plane (corner.x + k % 8) (corner.y + k / 8)))
-    → samples ≡ samples_of p mb b
-unfolding samples_of
+    → samples ≡ samples_of_block p mb b
+unfolding samples_of_block
 square_is_block p mb b corner plane samples e same long each =
     subst (λ (corner : Corner). samples
     ≡ map (λ k. pos (sample_at p corner.plane (corner.x + k % 8) (corner.y + k / 8))) (range_with_len 0 64)) e
@@ -84,12 +84,12 @@ residuals_are p q r mb v b residuals predicted long each from =
 -- ---- luma
 
 -- the zero vector stays
-stays : (x : ℕ) → moved x (whole_part Y (pos 0)) ≡ x
+stays : (x : ℕ) → moved_whole x (whole_part Y (pos 0)) ≡ x
 stays x = omega (arith, ints)
 
 -- the zero vector predicts a picture's own samples
 own_sample : (p : Picture) (x y : ℕ) → predicted_sample p Y x y (record { x = pos 0; y = pos 0 }) 0 ≡ sample_at p Y x y
-own_sample p x y = ap (λ (i : ℕ). sample_at p Y i (moved y (whole_part Y (pos 0)))) (stays x)
+own_sample p x y = ap (λ (i : ℕ). sample_at p Y i (moved_whole y (whole_part Y (pos 0)))) (stays x)
     ∙ ap (λ (j : ℕ). sample_at p Y x j) (stays y)
 
 pub own_luma : (p : Picture) (mb : ℕ) (samples : List ℕ) → length samples ≡ 256

@@ -15,7 +15,7 @@ use Rattle.h263_planes.specs.Picture.{Picture}
 use Rattle.quantiser.specs.Levels.{inter_level, intra_level}
 use Rattle.quantiser.specs.Zigzag.{block_place_of}
 use Rattle.idct8.specs.Transform.{entry, forward_at}
-use Rattle.mode_choice.specs.Choice.{limited_dc, level_of, coefficient_at, levels_of, blocks_of, samples_of, residual_level_of, residual_levels_of, residual_blocks_of, residuals_of}
+use Rattle.mode_choice.specs.Choice.{limited_dc, chosen_level, coefficient_at, levels_of, blocks_of, samples_of_block, residual_level_of, residual_levels_of, residual_blocks_of, residuals_of}
 
 -- a place of the block by its row and column
 pub at_place : (block : List ℤ) (at : ℕ) → entry block (at / 8) (at % 8) ≡ get_or block at (pos 0)
@@ -40,14 +40,14 @@ second false z w e h = h
 later : (k : ℕ) → 1 ≤ k → nat_eq k 0 ≡ false
 later k h = grind (arith, nat_tests)
 
-level_in_range : (quant keep k : ℕ) (f : ℤ) → 1 ≤ k → IsLevel (level_of quant keep k f)
+level_in_range : (quant keep k : ℕ) (f : ℤ) → 1 ≤ k → IsLevel (chosen_level quant keep k f)
 level_in_range quant keep k f h =
     second (nat_eq k 0) _ _ (later k h) (kept_or_zero (nat_lt k keep) (intra_level quant f) (level_small quant f))
 
 pub block_in_range : (quant keep : ℕ) (samples : List ℤ) → IsIntraBlock (levels_of quant keep samples)
 unfolding levels_of
 block_in_range quant keep samples =
-    let f : ℕ → ℤ = λ k. level_of quant keep k (coefficient_at samples k) in
+    let f : ℕ → ℤ = λ k. chosen_level quant keep k (coefficient_at samples k) in
     record {
       dc = subst IsDc (sym (get_or-map-range_with_len f 0 64 0 0 (pos 0) (lit< tt) refl)) (dc_in_range _);
       levels = λ k some below.
@@ -67,8 +67,8 @@ unfolding blocks_of
 blocks_in_range frame quant keep mb h =
     record {
       quant_in_range = h;
-      each = each_block IsIntraBlock (λ b. levels_of quant keep (samples_of frame mb b))
-          (λ b. block_in_range quant keep (samples_of frame mb b));
+      each = each_block IsIntraBlock (λ b. levels_of quant keep (samples_of_block frame mb b))
+          (λ b. block_in_range quant keep (samples_of_block frame mb b));
     }
 
 -- ---- residuals

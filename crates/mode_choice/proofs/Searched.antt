@@ -15,14 +15,14 @@ use Rattle.motion_search.specs.Best.{best_vector}
 use Rattle.motion_search.specs.Cost as luma
 use Rattle.motion_search.specs.Cost.{IsCost}
 use Rattle.picture_header.specs.declared.header.Header.{Header}
-use Rattle.mode_choice.specs.Choice.{choice_in_p, deviation_of, inter_of, is_intra, predicted_by}
+use Rattle.mode_choice.specs.Choice.{choice_in_p, deviation_of, inter_of, chooses_intra, predicted_by}
 use Rattle.mode_choice.proofs.Choices.{one_of_two}
 
 pub cost_kept : (z : ℤ) → IsCost z → to_z w32 (of_z w32 z) ≡ z
 cost_kept z h = omega (arith, ints)
 
 -- where a sum isn't low enough, no greater one is
-pub no_greater : (a b : ℕ) (cost : ℤ) → a ≤ b → is_intra a cost ≡ false → false ≡ is_intra b cost
+pub no_greater : (a b : ℕ) (cost : ℤ) → a ≤ b → chooses_intra a cost ≡ false → false ≡ chooses_intra b cost
 no_greater a b cost h e = grind (arith, ints)
 
 second_of : {X : Type 0} (t : Bool) (a b : X) → t ≡ false → cond t a b ≡ b
@@ -33,12 +33,12 @@ second_of false a b h = refl
 pub by_best : (frame reference : Picture) (h : Header) (params : Params) (mb : ℕ) (out : Mb) (v : Vector) (cost : ℤ) →
     IsCost cost → v ≡ (best_vector frame reference mb params.radius h.rounding).vector
     → cost ≡ (best_vector frame reference mb params.radius h.rounding).cost →
-    is_intra (deviation_of (luma.samples_of frame mb)) (to_z w32 (of_z w32 cost)) ≡ false →
+    chooses_intra (deviation_of (luma.samples_of frame mb)) (to_z w32 (of_z w32 cost)) ≡ false →
     out ≡ inter_of frame reference h.quant params.keep h.rounding mb v → out ≡ choice_in_p frame reference h params mb
 by_best frame reference h params mb out v cost range vector least test made =
     made
     ∙ ap (λ (v : Vector). inter_of frame reference h.quant params.keep h.rounding mb v) vector
-    ∙ sym (second_of _ _ _ (ap (λ (z : ℤ). is_intra (deviation_of (luma.samples_of frame mb)) z) (sym least
+    ∙ sym (second_of _ _ _ (ap (λ (z : ℤ). chooses_intra (deviation_of (luma.samples_of frame mb)) z) (sym least
     ∙ sym (cost_kept cost range)) ∙ test))
 
 -- the samples that its vector predicts, where it has one

@@ -4,10 +4,10 @@ use Rattle.h263_types.specs.Blocks.{IsQuant}
 use Rattle.idct8.specs.Near.{IsBracketed, near_at}
 use Rattle.idct8.specs.Transform.{entry, forward_at}
 use Rattle.quantiser.specs.Levels.{inter_level, signed_of}
-use Rattle.quantiser.specs.Settled.{AreSettled, IsBetween, rest_of, steps_of}
+use Rattle.quantiser.specs.Settled.{AreSettled, IsSizeBetween, rest_of, steps_of}
 use Rattle.quantiser.specs.Zigzag.{block_place_of}
 use Rattle.mode_choice.specs.Choice.{coefficient_at}
-use Rattle.mode_choice.specs.Walk.{half_of, level_by, place_in}
+use Rattle.mode_choice.specs.Walk.{half_quant, level_by, standing_place}
 use Rattle.mode_choice.specs.declared.coefficients.Coding.{Coding}
 use Rattle.mode_choice.specs.declared.coefficients.Coding.TheVariants.{Intra, Inter}
 use Rattle.mode_choice.specs.declared.order.Standing.TheVariants.{ByColumns}
@@ -17,13 +17,13 @@ use Rattle.mode_choice.proofs.Walk.{block_place_below}
 less_none : (q n : ℕ) → steps_of q (n - 0) ≡ steps_of q n
 less_none q n = let same : n - 0 ≡ n = omega arith in ap (λ (k : ℕ). steps_of q k) same
 
-between : (t f : ℤ) → IsBracketed t f → IsBetween ((unsigned_abs t + 6) / 16) ((unsigned_abs t + 9) / 16) t f
+between : (t f : ℤ) → IsBracketed t f → IsSizeBetween ((unsigned_abs t + 6) / 16) ((unsigned_abs t + 9) / 16) t f
 between t f h = record { low = h.least; high = h.most; up = h.up; down = h.down }
 
 settled_level : AreSettled → (coding : Coding) (quant : ℕ) (t level f : ℤ) → IsQuant quant → IsBracketed t f →
-    level ≡ signed_of t (pos (steps_of quant ((unsigned_abs t + 6) / 16 - half_of coding quant))) →
-    steps_of quant ((unsigned_abs t + 6) / 16 - half_of coding quant)
-    ≡ steps_of quant ((unsigned_abs t + 9) / 16 - half_of coding quant) →
+    level ≡ signed_of t (pos (steps_of quant ((unsigned_abs t + 6) / 16 - half_quant coding quant))) →
+    steps_of quant ((unsigned_abs t + 6) / 16 - half_quant coding quant)
+    ≡ steps_of quant ((unsigned_abs t + 9) / 16 - half_quant coding quant) →
     level ≡ level_by coding quant f
 settled_level settled Intra quant t level f h near is same =
     let least : ℕ = (unsigned_abs t + 6) / 16 in
@@ -36,7 +36,7 @@ settled_level settled Inter quant t level f h near is same =
     is ∙ sym (settled.inter quant ((unsigned_abs t + 6) / 16) ((unsigned_abs t + 9) / 16) t f h (between t f near) same)
 
 -- where the least and the most that a coefficient can be have as many steps, the level of the one is the coefficient's
-pub sure_level : AreSettled → (coding : Coding) (quant half : ℕ) (t level f : ℤ) → half ≡ half_of coding quant
+pub sure_level : AreSettled → (coding : Coding) (quant half : ℕ) (t level f : ℤ) → half ≡ half_quant coding quant
     → IsQuant quant → IsBracketed t f →
     level ≡ signed_of t (pos (steps_of quant ((unsigned_abs t + 6) / 16 - half))) →
     steps_of quant ((unsigned_abs t + 6) / 16 - half) ≡ steps_of quant ((unsigned_abs t + 9) / 16 - half) →
@@ -64,7 +64,7 @@ rest_small quant half t h =
 pub brackets : (samples sixteenths : List ℤ) → ((s : List ℤ) (v u : ℕ) → v < 8 → u < 8
     → IsBracketed (near_at s v u) (forward_at s v u)) →
     ((u v : ℕ) → u < 8 → v < 8 → entry sixteenths u v ≡ near_at samples v u) →
-    (k : ℕ) → IsBracketed (get_or sixteenths (place_in ByColumns k) (pos 0)) (coefficient_at samples k)
+    (k : ℕ) → IsBracketed (get_or sixteenths (standing_place ByColumns k) (pos 0)) (coefficient_at samples k)
 brackets samples sixteenths near each k =
     let at : ℕ = block_place_of k in
     let below : at < 64 = block_place_below k in

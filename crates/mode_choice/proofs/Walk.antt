@@ -14,7 +14,7 @@ use Rattle.quantiser.specs.Factors.{HasSameLevels, IsWord, limited_to_word}
 use Rattle.quantiser.specs.Zigzag.{IsOneOrder, order, block_place_of, zigzag_place_of}
 use Rattle.idct8.specs.Transform.{entry, forward_at}
 use Rattle.mode_choice.specs.Choice.{coefficient_at}
-use Rattle.mode_choice.specs.Walk.{AreSet, kept_level, level_by, order_of, place_in, turned_place}
+use Rattle.mode_choice.specs.Walk.{AreSet, kept_level, level_by, order_of, standing_place, turned_place}
 use Rattle.mode_choice.specs.declared.coefficients.Coding.{Coding}
 use Rattle.mode_choice.specs.declared.coefficients.Coding.TheVariants.{Intra, Inter}
 use Rattle.mode_choice.specs.declared.order.Standing.{Standing}
@@ -44,17 +44,17 @@ turned_below at h = omega (arith, h)
 turned_twice : (at : ℕ) → at < 64 → turned_place (turned_place at) ≡ at
 turned_twice at h = omega (arith, h)
 
-pub place_below : (s : Standing) (k : ℕ) → place_in s k < 64
+pub place_below : (s : Standing) (k : ℕ) → standing_place s k < 64
 place_below ByRows k = block_place_below k
 place_below ByColumns k = turned_below (block_place_of k) (block_place_below k)
 
 -- each place where a level stands has one in the order, and each of the order has one
-order_back : IsOneOrder → (s : Standing) (at : ℕ) → at < 64 → place_in s (order_of s at) ≡ at
+order_back : IsOneOrder → (s : Standing) (at : ℕ) → at < 64 → standing_place s (order_of s at) ≡ at
 order_back one ByRows at h = one.from_block at h
 order_back one ByColumns at h = ap turned_place (one.from_block (turned_place at) (turned_below at h))
     ∙ turned_twice at h
 
-order_there : IsOneOrder → (s : Standing) (k : ℕ) → k < 64 → order_of s (place_in s k) ≡ k
+order_there : IsOneOrder → (s : Standing) (k : ℕ) → k < 64 → order_of s (standing_place s k) ≡ k
 order_there one ByRows k h = one.from_order k h
 order_there one ByColumns k h = ap zigzag_place_of (turned_twice (block_place_of k) (block_place_below k))
     ∙ one.from_order k h
@@ -97,7 +97,7 @@ pub starts : EachIsMarked → (s : Standing) (keep : ℕ) (block : List ℤ) (re
 starts marked s keep block rest marks = record {
   long = refl;
   stand = λ k less.
-      let at = place_in s k in
+      let at = standing_place s k in
       get_or-replicate 64 k (pos 0) (pos 0) less
       ∙ none_unmarked (get_or block at (pos 0)) (is_zero (get_or block at (pos 0))) (nat_lt k keep) (bit_at rest at)
       refl
@@ -117,21 +117,21 @@ pub set_one : IsOneOrder → (s : Standing) (keep : ℕ) (block : List ℤ) (at 
     AreSet s keep block rest levels → AreSet s keep block (without rest at) (slice_set levels k v)
 set_one one s keep block at k rest levels v mark place room level range before =
     let left = without rest at in
-    let back : place_in s k ≡ at = ap (place_in s) place ∙ order_back one s at mark.below in
+    let back : standing_place s k ≡ at = ap (standing_place s) place ∙ order_back one s at mark.below in
     record {
       long = length-set levels k v ∙ before.long;
       stand = λ j less.
-          one_less j k (bit_at rest (place_in s j)) (bit_at left (place_in s j)) _ _ _ (before.stand j less)
-          (λ same. let here : place_in s j ≡ at = ap (place_in s) same ∙ back in (
+          one_less j k (bit_at rest (standing_place s j)) (bit_at left (standing_place s j)) _ _ _ (before.stand j less)
+          (λ same. let here : standing_place s j ≡ at = ap (standing_place s) same ∙ back in (
             ap (λ (n : ℕ). get_or (slice_set levels k v) n (pos 0)) same
                 ∙ get_or-set_same levels k v (pos 0) (omega (arith, before.long)) ∙ level
                 ∙ ap (λ (n : ℕ). kept_level keep k (get_or block n (pos 0))) (sym back)
-                ∙ ap (λ (n : ℕ). kept_level keep n (get_or block (place_in s n) (pos 0))) (sym same),
+                ∙ ap (λ (n : ℕ). kept_level keep n (get_or block (standing_place s n) (pos 0))) (sym same),
             ap (bit_at left) here ∙ mark.gone,
           ))
-          (λ differs. let other : place_in s j ≢ at = λ here. differs (sym (order_there one s j less)
+          (λ differs. let other : standing_place s j ≢ at = λ here. differs (sym (order_there one s j less)
           ∙ ap (order_of s) here ∙ sym place) in
-          (get_or-set_other levels k j v (pos 0) differs, mark.others (place_in s j) (place_below s j) other));
+          (get_or-set_other levels k j v (pos 0) differs, mark.others (standing_place s j) (place_below s j) other));
       range = All-set IsLevel levels k v range before.range;
     }
 
@@ -140,9 +140,9 @@ pub not_yet : IsOneOrder → (s : Standing) (keep : ℕ) (block : List ℤ) (at 
     → k ≡ order_of s at → k < 64 →
     AreSet s keep block rest levels → get_or levels k (pos 0) ≡ pos 0
 not_yet one s keep block at k rest levels mark place less before =
-    let back : place_in s k ≡ at = ap (place_in s) place ∙ order_back one s at mark.below in
+    let back : standing_place s k ≡ at = ap (standing_place s) place ∙ order_back one s at mark.below in
     before.stand k less
-    ∙ ap (λ (n : ℕ). cond (nat_eq n 0) (kept_level keep k (get_or block (place_in s k) (pos 0))) (pos 0))
+    ∙ ap (λ (n : ℕ). cond (nat_eq n 0) (kept_level keep k (get_or block (standing_place s k) (pos 0))) (pos 0))
     (ap (bit_at rest) back ∙ mark.set)
 
 -- the marks that are left are some of those before
@@ -168,10 +168,10 @@ all_gone bit now v none h = grind (arith, nat_tests)
 -- with no mark all levels stand
 pub ends : (s : Standing) (keep : ℕ) (block : List ℤ) (rest : ℕ) (levels : List ℤ) → rest ≡ 0
     → AreSet s keep block rest levels →
-    (k : ℕ) → k < 64 → get_or levels k (pos 0) ≡ kept_level keep k (get_or block (place_in s k) (pos 0))
+    (k : ℕ) → k < 64 → get_or levels k (pos 0) ≡ kept_level keep k (get_or block (standing_place s k) (pos 0))
 ends s keep block rest levels none before k less =
-    all_gone (bit_at rest (place_in s k)) _ _ (ap (λ (n : ℕ). bit_at n (place_in s k)) none
-    ∙ bit_at-zero (place_in s k)) (before.stand k less)
+    all_gone (bit_at rest (standing_place s k)) _ _ (ap (λ (n : ℕ). bit_at n (standing_place s k)) none
+    ∙ bit_at-zero (standing_place s k)) (before.stand k less)
 
 -- what a transform gives at a place of the zigzag order
 pub is_forward_at : (coefficients block : List ℤ) (k : ℕ)

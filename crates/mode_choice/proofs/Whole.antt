@@ -9,7 +9,7 @@ use Rattle.h263_types.specs.declared.vector.Vector.{Vector}
 use Rattle.h263_types.specs.Blocks.{AreWhole, HasWholeBlocks}
 use Rattle.h263_planes.specs.Picture.{Picture}
 use Rattle.picture_header.specs.declared.header.Header.{Header}
-use Rattle.mode_choice.specs.Choice.{blocks_of, choice_of, coefficient_at, level_of, levels_of, residual_blocks_of, residual_level_of, residual_levels_of, residuals_of, samples_of}
+use Rattle.mode_choice.specs.Choice.{blocks_of, choice_of, coefficient_at, chosen_level, levels_of, residual_blocks_of, residual_level_of, residual_levels_of, residuals_of, samples_of_block}
 use Rattle.mode_choice.proofs.Choices.{chosen_in_p}
 
 six_blocks : (f : ℕ → Block) → ((b : ℕ) → length (f b).levels ≡ 64) → AreWhole (map f (range_with_len 0 6))
@@ -21,7 +21,8 @@ six_blocks f long = record {
 
 long_block : (quant keep : ℕ) (samples : List ℤ) → length (levels_of quant keep samples).levels ≡ 64
 unfolding levels_of
-long_block quant keep samples = length-map-range_with_len (λ k. level_of quant keep k (coefficient_at samples k)) 0 64
+long_block quant keep samples = length-map-range_with_len (λ k. chosen_level quant keep k (coefficient_at samples k)) 0
+    64
 
 long_residual : (quant keep : ℕ) (residuals : List ℤ) → length (residual_levels_of quant keep residuals).levels ≡ 64
 unfolding residual_levels_of
@@ -30,8 +31,8 @@ long_residual quant keep residuals = length-map-range_with_len (λ k. residual_l
 
 whole_blocks : (p : Picture) (quant keep mb : ℕ) → AreWhole (blocks_of p quant keep mb)
 unfolding blocks_of
-whole_blocks p quant keep mb = six_blocks (λ b. levels_of quant keep (samples_of p mb b))
-    (λ b. long_block quant keep (samples_of p mb b))
+whole_blocks p quant keep mb = six_blocks (λ b. levels_of quant keep (samples_of_block p mb b))
+    (λ b. long_block quant keep (samples_of_block p mb b))
 
 whole_residuals : (p reference : Picture) (quant keep r mb : ℕ) (v : Vector)
     → AreWhole (residual_blocks_of p reference quant keep r mb v)

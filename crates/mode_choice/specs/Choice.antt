@@ -37,8 +37,8 @@ predicted_in_block reference r mb v b k =
     predicted_sample reference corner.plane (corner.x + k % 8) (corner.y + k / 8) v r
 
 -- the samples of block b of macroblock mb, by rows
-unfoldable pub samples_of : Picture → ℕ → ℕ → List ℤ
-samples_of p mb b = map (λ k. pos (sample_in_block p mb b k)) (range_with_len 0 64)
+unfoldable pub samples_of_block : Picture → ℕ → ℕ → List ℤ
+samples_of_block p mb b = map (λ k. pos (sample_in_block p mb b k)) (range_with_len 0 64)
 
 -- these samples less the predicted ones
 unfoldable pub residuals_of : Picture → Picture → ℕ → ℕ → Vector → ℕ → List ℤ
@@ -58,18 +58,18 @@ limited_dc (negsuc n) = pos 1
 
 -- the level of coefficient f at place k of the zigzag order: INTRADC is an eighth of it, rounded; the others are by
 -- the quantiser, and 0 from place `keep` on
-abbrev pub level_of : ℕ → ℕ → ℕ → ℤ → ℤ
-level_of quant keep k f =
+abbrev pub chosen_level : ℕ → ℕ → ℕ → ℤ → ℤ
+chosen_level quant keep k f =
     if k == 0 then limited_dc (int_shr (f +ℤ pos 4) 3) else if nat_lt k keep then intra_level quant f else pos 0
 
 -- the levels of a block of samples
 unfoldable pub levels_of : ℕ → ℕ → List ℤ → Block
 levels_of quant keep samples =
-    record { levels = map (λ k. level_of quant keep k (coefficient_at samples k)) (range_with_len 0 64) }
+    record { levels = map (λ k. chosen_level quant keep k (coefficient_at samples k)) (range_with_len 0 64) }
 
 -- the six blocks of macroblock mb
 unfoldable pub blocks_of : Picture → ℕ → ℕ → ℕ → List Block
-blocks_of frame quant keep mb = map (λ b. levels_of quant keep (samples_of frame mb b)) (range_with_len 0 6)
+blocks_of frame quant keep mb = map (λ b. levels_of quant keep (samples_of_block frame mb b)) (range_with_len 0 6)
 
 -- macroblock mb coded by itself
 abbrev pub intra_of : Picture → ℕ → ℕ → ℕ → Mb
@@ -122,14 +122,14 @@ deviation_of samples = differences samples (replicate 256 (mean_of samples))
 
 -- whether a macroblock is coded by itself: where its samples lie nearer to their mean than to what
 -- the vector predicts, by more than 500
-abbrev pub is_intra : ℕ → ℤ → Bool
-is_intra deviation cost = int_lt (pos deviation) (cost -ℤ pos 500)
+abbrev pub chooses_intra : ℕ → ℤ → Bool
+chooses_intra deviation cost = int_lt (pos deviation) (cost -ℤ pos 500)
 
 -- the choice at place mb where there is a reference
 abbrev pub choice_in_p : Picture → Picture → Header → Params → ℕ → Mb
 choice_in_p frame reference h params mb =
     let best = best_vector frame reference mb params.radius h.rounding in
-    if is_intra (deviation_of (luma.samples_of frame mb)) best.cost
+    if chooses_intra (deviation_of (luma.samples_of frame mb)) best.cost
     then intra_of frame h.quant params.keep mb
     else inter_of frame reference h.quant params.keep h.rounding mb best.vector
 

@@ -21,9 +21,9 @@ least_of Intra quant = 2 * quant
 least_of Inter quant = 2 * quant + quant / 2
 
 -- what is taken from its size before the steps of twice the quantiser are counted
-abbrev pub half_of : Coding → ℕ → ℕ
-half_of Intra quant = 0
-half_of Inter quant = quant / 2
+abbrev pub half_quant : Coding → ℕ → ℕ
+half_quant Intra quant = 0
+half_quant Inter quant = quant / 2
 
 -- the level at place k of the zigzag order as it is kept: 0 from place `keep` on
 abbrev pub kept_level : ℕ → ℕ → ℤ → ℤ
@@ -40,9 +40,9 @@ abbrev pub turned_place : ℕ → ℕ
 turned_place at = 8 * (at % 8) + at / 8
 
 -- the place where the level of place k of the zigzag order stands
-abbrev pub place_in : Standing → ℕ → ℕ
-place_in ByRows k = block_place_of k
-place_in ByColumns k = turned_place (block_place_of k)
+abbrev pub standing_place : Standing → ℕ → ℕ
+standing_place ByRows k = block_place_of k
+standing_place ByColumns k = turned_place (block_place_of k)
 
 -- the place in the zigzag order of the level that stands at a place
 abbrev pub order_of : Standing → ℕ → ℕ
@@ -62,6 +62,6 @@ AreZerosFrom n blocks = (d : Block) (b : ℕ) → n ≤ b → b < 6 → slice_in
 pub record AreSet (standing : Standing) (keep : ℕ) (block : List ℤ) (rest : ℕ) (levels : List ℤ) : Type 0 where
   pub long : length levels ≡ 64
   pub stand : (k : ℕ) → k < 64 → slice_index_or levels k (pos 0)
-      ≡ (if nat_eq (bit_at rest (place_in standing k)) 0
-      then kept_level keep k (slice_index_or block (place_in standing k) (pos 0)) else pos 0)
+      ≡ (if nat_eq (bit_at rest (standing_place standing k)) 0
+      then kept_level keep k (slice_index_or block (standing_place standing k) (pos 0)) else pos 0)
   pub range : All IsLevel levels

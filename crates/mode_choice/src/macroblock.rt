@@ -166,7 +166,7 @@ fn is_nearer_to_mean(frame: PictureRef<'_>, mb: u32, cost: i32) -> bool
     requires mb { mb < mbs_of (picture frame).format }
     requires cost { IsCost cost }
     ensures { result
-        ≡ choice.is_intra (choice.deviation_of (samples_of (picture frame.entry) mb)) cost }
+        ≡ choice.chooses_intra (choice.deviation_of (samples_of (picture frame.entry) mb)) cost }
 {
     if cost <= 500 {
         return false;
@@ -183,7 +183,7 @@ fn is_nearer_to_mean(frame: PictureRef<'_>, mb: u32, cost: i32) -> bool
 fn is_intra(deviation: u32, cost: i32) -> bool
     requires deviation { deviation ≤ 65280 }
     requires cost { IsCost cost }
-    ensures { result ≡ choice.is_intra deviation cost }
+    ensures { result ≡ choice.chooses_intra deviation cost }
 {
     (deviation as i32) < cost - 500
 }

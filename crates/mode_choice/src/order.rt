@@ -3,7 +3,7 @@ ghost use Rattle.std.specs.Prelude.{◌≡◌, ◌≢◌, ℕ, ◌≤◌, ◌<�
 ghost use Rattle.h263_types.specs.Blocks.{IsLevel};
 ghost use Rattle.h263_types.specs.Marks.{marks_of};
 ghost use Rattle.quantiser.specs.Zigzag.{zigzag_place_of};
-ghost use Rattle.mode_choice.specs.Walk.{kept_level, order_of, place_in, turned_place};
+ghost use Rattle.mode_choice.specs.Walk.{kept_level, order_of, standing_place, turned_place};
 
 use h263_types::{Block, laws as types_laws};
 use quantiser::{laws as quantiser_laws, zigzag_place};
@@ -35,7 +35,7 @@ pub(crate) fn put_in_order(
     requires zeros { out.old ≡ replicate 64 (pos 0) }
     ensures long { length out.new ≡ 64 }
     ensures levels { (k : ℕ) → k < 64 → slice_index_or out.new k (pos 0)
-        ≡ kept_level keep k (slice_index_or levels.now (place_in standing k) (pos 0)) }
+        ≡ kept_level keep k (slice_index_or levels.now (standing_place standing k) (pos 0)) }
     ensures marks { result ≡ marks_of out.new }
 {
     types_laws::lowest();

@@ -4,7 +4,7 @@ ghost use Rattle.h263_types.specs.Sizes.{mbs_of};
 ghost use Rattle.h263_planes.specs.Lent.{picture};
 ghost use Rattle.h263_planes.specs.Samples.{Inside, sample_at};
 ghost use Rattle.idct8.specs.Ranges.{IsSample};
-ghost use Rattle.mode_choice.specs.Choice.{samples_of};
+ghost use Rattle.mode_choice.specs.Choice.{samples_of_block};
 
 use h263_planes::{PictureRef, Plane, block_corner};
 use std::simd::prelude::*;
@@ -14,7 +14,7 @@ use std::simd::prelude::*;
 pub(crate) fn block_samples(frame: PictureRef<'_>, mb: u32, block: u32, samples: &mut [i16; 64])
     requires mb { mb < mbs_of (picture frame).format }
     requires block { block < 6 }
-    ensures samples { samples.new ≡ samples_of (picture frame.entry) mb block }
+    ensures samples { samples.new ≡ samples_of_block (picture frame.entry) mb block }
     ensures range { All IsSample samples.new }
 {
     let corner = block_corner(frame.format(), mb, block);

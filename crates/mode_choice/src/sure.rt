@@ -5,7 +5,7 @@ ghost use Rattle.h263_types.specs.Marks.{marks_of};
 ghost use Rattle.idct8.specs.Near.{IsBracketed};
 ghost use Rattle.quantiser.specs.Factors.{IsFactor, IsWord};
 ghost use Rattle.mode_choice.specs.declared.order.Standing.TheVariants.{ByColumns};
-ghost use Rattle.mode_choice.specs.Walk.{half_of, level_by, level_in, place_in};
+ghost use Rattle.mode_choice.specs.Walk.{half_quant, level_by, level_in, standing_place};
 
 use crate::coefficients::{Coding, Quantisation, least_size};
 use crate::order::{Standing, put_in_order};
@@ -28,7 +28,7 @@ pub(crate) fn sure_levels_in(
     ensures unsure { result.0 ≡ false → out.new ≡ out.old }
     ensures long { length out.new ≡ 64 }
     ensures levels { IsTrue result.0 → (k : ℕ) (coefficient : ℤ) → k < 64
-        → IsBracketed (slice_index_or sixteenths.now (place_in ByColumns k) (pos 0)) coefficient
+        → IsBracketed (slice_index_or sixteenths.now (standing_place ByColumns k) (pos 0)) coefficient
         → slice_index_or out.new k (pos 0)
         ≡ level_in coding quantisation.quant quantisation.keep coefficient k }
     ensures marks { result.1 ≡ marks_of out.new }
@@ -126,7 +126,7 @@ fn sure_levels(
 // What is taken from a coefficient's size before the steps are counted.
 #[inline(always)]
 fn half_step(coding: Coding, quant: u8) -> u16
-    ensures { result ≡ half_of coding quant }
+    ensures { result ≡ half_quant coding quant }
 {
     match coding {
         Coding::Intra => 0,

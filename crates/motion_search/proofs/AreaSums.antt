@@ -11,63 +11,64 @@ use Rattle.std.proofs.lemmas.List.FromFn.{length-map-range_with_len, get_or-map-
 use Rattle.std.proofs.lemmas.Simd.{zip2-map, bitmask_splat, bit_mask_l, length-chunk, get_or-chunk}
 use Rattle.sad_kernel.specs.Differences.{differences}
 use Rattle.motion_search.specs.Cost.{square}
-use Rattle.motion_search.specs.Areas.{total, column_sum, area_sum, AreBytes, sixteen, in_block, IsRow}
+use Rattle.motion_search.specs.Areas.{sum_of_first, column_sum, area_sum, AreSamplesAt, sixteen, sample_of_block, IsRow}
 use Rattle.motion_search.proofs.Blocks.{length-square, get_or-square}
 
 -- ---- sums of numbers by their places
 
-pub total_is : (f g : ℕ → ℕ) (n : ℕ) → ((i : ℕ) → i < n → f i ≡ g i) → total f n ≡ total g n
-unfolding total
+pub total_is : (f g : ℕ → ℕ) (n : ℕ) → ((i : ℕ) → i < n → f i ≡ g i) → sum_of_first f n ≡ sum_of_first g n
+unfolding sum_of_first
 total_is f g zero h = refl
 total_is f g (suc n) h = cc (total_is f g n (λ i hi. h i (omega (arith, hi))), h n (omega arith))
 
-total_zeros : (n : ℕ) → total (λ _. 0) n ≡ 0
-unfolding total
+total_zeros : (n : ℕ) → sum_of_first (λ _. 0) n ≡ 0
+unfolding sum_of_first
 total_zeros zero = refl
 total_zeros (suc n) = omega (arith, total_zeros n)
 
-total_plus : (f g : ℕ → ℕ) (n : ℕ) → total (λ i. f i + g i) n ≡ total f n + total g n
-unfolding total
+total_plus : (f g : ℕ → ℕ) (n : ℕ) → sum_of_first (λ i. f i + g i) n ≡ sum_of_first f n + sum_of_first g n
+unfolding sum_of_first
 total_plus f g zero = refl
 total_plus f g (suc n) = omega (arith, total_plus f g n)
 
-pub total_first : (f : ℕ → ℕ) (n : ℕ) → total f (suc n) ≡ f 0 + total (λ i. f (suc i)) n
-unfolding total
+pub total_first : (f : ℕ → ℕ) (n : ℕ) → sum_of_first f (suc n) ≡ f 0 + sum_of_first (λ i. f (suc i)) n
+unfolding sum_of_first
 total_first f zero = omega arith
 total_first f (suc n) = omega (arith, total_first f n)
 
-total_split : (f : ℕ → ℕ) (a b : ℕ) → total f (a + b) ≡ total f a + total (λ i. f (a + i)) b
-unfolding total
-total_split f a zero = let e : a + 0 ≡ a = omega arith in ap (total f) e ∙ omega arith
+total_split : (f : ℕ → ℕ) (a b : ℕ) → sum_of_first f (a + b) ≡ sum_of_first f a + sum_of_first (λ i. f (a + i)) b
+unfolding sum_of_first
+total_split f a zero = let e : a + 0 ≡ a = omega arith in ap (sum_of_first f) e ∙ omega arith
 total_split f a (suc b) =
     let e : a + suc b ≡ suc (a + b) = omega arith in
-    ap (total f) e ∙ omega (arith, total_split f a b)
+    ap (sum_of_first f) e ∙ omega (arith, total_split f a b)
 
 -- the order of two sums doesn't matter
-total_swap : (f : ℕ → ℕ → ℕ) (a b : ℕ) → total (λ i. total (λ j. f i j) a) b ≡ total (λ j. total (λ i. f i j) b) a
-unfolding total
+total_swap : (f : ℕ → ℕ → ℕ) (a b : ℕ) → sum_of_first (λ i. sum_of_first (λ j. f i j) a) b
+    ≡ sum_of_first (λ j. sum_of_first (λ i. f i j) b) a
+unfolding sum_of_first
 total_swap f a zero = sym (total_zeros a)
 total_swap f a (suc b) =
-    ap (λ (k : ℕ). k + total (λ j. f b j) a) (total_swap f a b)
-    ∙ sym (total_plus (λ j. total (λ i. f i j) b) (λ j. f b j) a)
+    ap (λ (k : ℕ). k + sum_of_first (λ j. f b j) a) (total_swap f a b)
+    ∙ sym (total_plus (λ j. sum_of_first (λ i. f i j) b) (λ j. f b j) a)
 
-pub total_small : (f : ℕ → ℕ) (n : ℕ) → ((i : ℕ) → f i < 256) → total f n ≤ 255 * n
-unfolding total
+pub total_small : (f : ℕ → ℕ) (n : ℕ) → ((i : ℕ) → f i < 256) → sum_of_first f n ≤ 255 * n
+unfolding sum_of_first
 total_small f zero h = omega arith
 total_small f (suc n) h = omega (arith, total_small f n h, h n)
 
 -- a difference of two sums is never more than the sum of the differences
 pub sums_apart : (f g : ℕ → ℕ) (d : ℕ → ℕ) (n : ℕ) → ((i : ℕ) → abs_diff (f i) (g i) ≤ d i)
-    → abs_diff (total f n) (total g n) ≤ total d n
-unfolding total
+    → abs_diff (sum_of_first f n) (sum_of_first g n) ≤ sum_of_first d n
+unfolding sum_of_first
 sums_apart f g d zero h = omega arith
 sums_apart f g d (suc n) h = omega (arith, sums_apart f g d n h, h n)
 
 -- ---- columns and areas
 
 column_more : (f : ℕ → ℕ → ℕ) (x y n : ℕ) → column_sum f x y (n + 1) ≡ column_sum f x y n + f x (y + n)
-unfolding column_sum total
-column_more f x y n = let e : n + 1 ≡ suc n = omega arith in ap (total (λ j. f x (y + j))) e
+unfolding column_sum sum_of_first
+column_more f x y n = let e : n + 1 ≡ suc n = omega arith in ap (sum_of_first (λ j. f x (y + j))) e
 
 column_less : (f : ℕ → ℕ → ℕ) (x y n : ℕ) → column_sum f x y (n + 1) ≡ f x y + column_sum f x (y + 1) n
 unfolding column_sum
@@ -76,14 +77,14 @@ column_less f x y n =
     let first : f x (y + 0) ≡ f x y = let z : y + 0 ≡ y = omega arith in ap (f x) z in
     let rest = total_is (λ i. f x (y + suc i)) (λ j. f x (y + 1 + j)) n (λ i hi. let s : y + suc i
     ≡ y + 1 + i = omega arith in ap (f x) s) in
-    ap (total (λ j. f x (y + j))) e ∙ total_first (λ j. f x (y + j)) n ∙ omega (arith, first, rest)
+    ap (sum_of_first (λ j. f x (y + j))) e ∙ total_first (λ j. f x (y + j)) n ∙ omega (arith, first, rest)
 
-pub column_small : (f : ℕ → ℕ → ℕ) (x y n : ℕ) → AreBytes f → column_sum f x y n ≤ 255 * n
+pub column_small : (f : ℕ → ℕ → ℕ) (x y n : ℕ) → AreSamplesAt f → column_sum f x y n ≤ 255 * n
 unfolding column_sum
 column_small f x y n h = total_small (λ j. f x (y + j)) n (λ j. h x (y + j))
 
-pub area_small : (f : ℕ → ℕ → ℕ) (x y : ℕ) → AreBytes f → area_sum f x y ≤ 16320
-unfolding area_sum total
+pub area_small : (f : ℕ → ℕ → ℕ) (x y : ℕ) → AreSamplesAt f → area_sum f x y ≤ 16320
+unfolding area_sum sum_of_first
 area_small f x y h =
     omega (
       arith,
@@ -101,28 +102,28 @@ pub area_is : (f g : ℕ → ℕ → ℕ) (x y u v : ℕ) → ((i j : ℕ) → i
     → area_sum f x y ≡ area_sum g u v
 unfolding area_sum column_sum
 area_is f g x y u v h =
-    total_is (λ i. total (λ j. f (x + i) (y + j)) 8) (λ i. total (λ j. g (u + i) (v + j)) 8) 8
+    total_is (λ i. sum_of_first (λ j. f (x + i) (y + j)) 8) (λ i. sum_of_first (λ j. g (u + i) (v + j)) 8) 8
     (λ i hi. total_is (λ j. f (x + i) (y + j)) (λ j. g (u + i) (v + j)) 8 (λ j hj. h i j hi hj))
 
 -- ---- a block's differences by its quarters
 
 -- the differences of one quarter
 abbrev quarter_of : (ℕ → ℕ → ℕ) → ℕ → ℕ → ℕ
-quarter_of d u v = total (λ i. total (λ j. d (u + i) (v + j)) 8) 8
+quarter_of d u v = sum_of_first (λ i. sum_of_first (λ j. d (u + i) (v + j)) 8) 8
 
 -- two areas differ by at least as much as their sums do
 area_apart : (b f : ℕ → ℕ → ℕ) (u v : ℕ)
     → abs_diff (area_sum f u v) (area_sum b u v) ≤ quarter_of (λ i j. abs_diff (b i j) (f i j)) u v
 unfolding area_sum column_sum
 area_apart b f u v =
-    sums_apart (λ i. total (λ j. f (u + i) (v + j)) 8) (λ i. total (λ j. b (u + i) (v + j)) 8)
-    (λ i. total (λ j. abs_diff (b (u + i) (v + j)) (f (u + i) (v + j))) 8) 8
+    sums_apart (λ i. sum_of_first (λ j. f (u + i) (v + j)) 8) (λ i. sum_of_first (λ j. b (u + i) (v + j)) 8)
+    (λ i. sum_of_first (λ j. abs_diff (b (u + i) (v + j)) (f (u + i) (v + j))) 8) 8
     (λ i. sums_apart (λ j. f (u + i) (v + j)) (λ j. b (u + i) (v + j))
     (λ j. abs_diff (b (u + i) (v + j)) (f (u + i) (v + j))) 8 (λ j. omega arith))
 
 differences_total : (xs ys : List ℕ) (n : ℕ) → length xs ≡ n → length ys ≡ n
-    → differences xs ys ≡ total (λ k. abs_diff (get_or xs k 0) (get_or ys k 0)) n
-unfolding total
+    → differences xs ys ≡ sum_of_first (λ k. abs_diff (get_or xs k 0) (get_or ys k 0)) n
+unfolding sum_of_first
 differences_total [] ys zero hx hy = refl
 differences_total [] ys (suc n) hx hy = absurd (omega (arith, hx))
 differences_total (x ∷ xs) [] zero hx hy = absurd (omega (arith, hx))
@@ -132,53 +133,56 @@ differences_total (x ∷ xs) (y ∷ ys) (suc n) hx hy =
     ap (λ (k : ℕ). abs_diff x y + k) (differences_total xs ys n (omega (arith, hx)) (omega (arith, hy)))
     ∙ sym (total_first (λ k. abs_diff (get_or (x ∷ xs) k 0) (get_or (y ∷ ys) k 0)) n)
 
-by_rows : (d : ℕ → ℕ) (n : ℕ) → total d (16 * n) ≡ total (λ j. total (λ i. d (16 * j + i)) 16) n
-unfolding total
+by_rows : (d : ℕ → ℕ) (n : ℕ) → sum_of_first d (16 * n) ≡ sum_of_first (λ j. sum_of_first (λ i. d (16 * j + i)) 16) n
+unfolding sum_of_first
 by_rows d zero = refl
 by_rows d (suc n) =
     let e : 16 * suc n ≡ 16 * n + 16 = omega arith in
-    ap (total d) e ∙ total_split d (16 * n) 16 ∙ ap (λ (k : ℕ). k + total (λ i. d (16 * n + i)) 16) (by_rows d n)
+    ap (sum_of_first d) e ∙ total_split d (16 * n) 16
+    ∙ ap (λ (k : ℕ). k + sum_of_first (λ i. d (16 * n + i)) 16) (by_rows d n)
 
 block_rows : (block : List ℕ) (f : ℕ → ℕ → ℕ) → length block ≡ 256 →
-    differences block (square f) ≡ total (λ j. total (λ i. abs_diff (in_block block i j) (f i j)) 16) 16
+    differences block (square f)
+    ≡ sum_of_first (λ j. sum_of_first (λ i. abs_diff (sample_of_block block i j) (f i j)) 16) 16
 block_rows block f long =
     differences_total block (square f) 256 long (length-square f)
     ∙ by_rows (λ k. abs_diff (get_or block k 0) (get_or (square f) k 0)) 16
-    ∙ total_is (λ j. total (λ i. abs_diff (get_or block (16 * j + i) 0) (get_or (square f) (16 * j + i) 0)) 16)
-    (λ j. total (λ i. abs_diff (in_block block i j) (f i j)) 16) 16
+    ∙ total_is (λ j. sum_of_first (λ i. abs_diff (get_or block (16 * j + i) 0) (get_or (square f) (16 * j + i) 0)) 16)
+    (λ j. sum_of_first (λ i. abs_diff (sample_of_block block i j) (f i j)) 16) 16
     (λ j hj. total_is (λ i. abs_diff (get_or block (16 * j + i) 0) (get_or (square f) (16 * j + i) 0))
-    (λ i. abs_diff (in_block block i j) (f i j)) 16
-    (λ i hi. ap (abs_diff (in_block block i j)) (get_or-square f j i hj hi)))
+    (λ i. abs_diff (sample_of_block block i j) (f i j)) 16
+    (λ i hi. ap (abs_diff (sample_of_block block i j)) (get_or-square f j i hj hi)))
 
 -- the two halves of eight rows
-two_quarters : (d : ℕ → ℕ → ℕ) (v : ℕ) → total (λ j. total (λ i. d i (v + j)) 16) 8
+two_quarters : (d : ℕ → ℕ → ℕ) (v : ℕ) → sum_of_first (λ j. sum_of_first (λ i. d i (v + j)) 16) 8
     ≡ quarter_of d 0 v + quarter_of d 8 v
 two_quarters d v =
-    total_is (λ j. total (λ i. d i (v + j)) 16) (λ j. total (λ i. d (0 + i) (v + j)) 8 + total (λ i. d (8 + i) (v + j))
+    total_is (λ j. sum_of_first (λ i. d i (v + j)) 16) (λ j. sum_of_first (λ i. d (0 + i) (v + j)) 8 + sum_of_first
+    (λ i. d (8 + i) (v + j))
     8) 8
-    (λ j hj. total_split (λ i. d i (v + j)) 8 8 ∙ ap (λ (k : ℕ). k + total (λ i. d (8 + i) (v + j)) 8)
+    (λ j hj. total_split (λ i. d i (v + j)) 8 8 ∙ ap (λ (k : ℕ). k + sum_of_first (λ i. d (8 + i) (v + j)) 8)
     (total_is (λ i. d i (v + j)) (λ i. d (0 + i) (v + j)) 8 (λ i hi. let e : i ≡ 0 + i = omega arith in
     ap (λ (k : ℕ). d k (v + j)) e)))
-    ∙ total_plus (λ j. total (λ i. d (0 + i) (v + j)) 8) (λ j. total (λ i. d (8 + i) (v + j)) 8) 8
+    ∙ total_plus (λ j. sum_of_first (λ i. d (0 + i) (v + j)) 8) (λ j. sum_of_first (λ i. d (8 + i) (v + j)) 8) 8
     ∙ cc (total_swap (λ j i. d (0 + i) (v + j)) 8 8, total_swap (λ j i. d (8 + i) (v + j)) 8 8)
 
-four_quarters : (d : ℕ → ℕ → ℕ) → total (λ j. total (λ i. d i j) 16) 16
+four_quarters : (d : ℕ → ℕ → ℕ) → sum_of_first (λ j. sum_of_first (λ i. d i j) 16) 16
     ≡ quarter_of d 0 0 + quarter_of d 8 0 + (quarter_of d 0 8 + quarter_of d 8 8)
 four_quarters d =
-    total_split (λ j. total (λ i. d i j) 16) 8 8
-    ∙ ap (λ (k : ℕ). k + total (λ j. total (λ i. d i (8 + j)) 16) 8)
-    (total_is (λ j. total (λ i. d i j) 16) (λ j. total (λ i. d i (0 + j)) 16) 8 (λ j hj. let e : j
-    ≡ 0 + j = omega arith in ap (λ (k : ℕ). total (λ i. d i k) 16) e))
+    total_split (λ j. sum_of_first (λ i. d i j) 16) 8 8
+    ∙ ap (λ (k : ℕ). k + sum_of_first (λ j. sum_of_first (λ i. d i (8 + j)) 16) 8)
+    (total_is (λ j. sum_of_first (λ i. d i j) 16) (λ j. sum_of_first (λ i. d i (0 + j)) 16) 8 (λ j hj. let e : j
+    ≡ 0 + j = omega arith in ap (λ (k : ℕ). sum_of_first (λ i. d i k) 16) e))
     ∙ cc (two_quarters d 0, two_quarters d 8)
 
 -- two blocks differ by at least as much as the sums of their quarters do, taken together
 pub quarters_apart : (block : List ℕ) (f : ℕ → ℕ → ℕ) → length block ≡ 256 →
-    let b = in_block block in
+    let b = sample_of_block block in
     abs_diff (area_sum f 0 0) (area_sum b 0 0) + abs_diff (area_sum f 8 0) (area_sum b 8 0)
     + (abs_diff (area_sum f 0 8) (area_sum b 0 8) + abs_diff (area_sum f 8 8) (area_sum b 8 8)) ≤ differences block
     (square f)
 quarters_apart block f long =
-    let b = in_block block in
+    let b = sample_of_block block in
     let d = λ (i j : ℕ). abs_diff (b i j) (f i j) in
     omega (
       arith,
@@ -222,7 +226,7 @@ abbrev pub minus : ℕ → ℕ → ℕ
 minus a b = (a + (2 ^ 16 - b)) % 2 ^ 16
 
 -- one more row below, and one less above
-pub more_lanes : (f : ℕ → ℕ → ℕ) (at : ℕ → ℕ) (y n : ℕ) (xs ys : List ℕ) → AreBytes f → n < 8 →
+pub more_lanes : (f : ℕ → ℕ → ℕ) (at : ℕ → ℕ) (y n : ℕ) (xs ys : List ℕ) → AreSamplesAt f → n < 8 →
     xs ≡ sixteen (λ i. column_sum f (at i) y n) → ys ≡ sixteen (λ i. f (at i) (y + n))
     → zip2 plus xs ys ≡ sixteen (λ i. column_sum f (at i) y (n + 1))
 more_lanes f at y n xs ys h hn ex ey =
@@ -232,7 +236,7 @@ more_lanes f at y n xs ys h hn ex ey =
     ∙ sixteen_is (λ i. plus (column_sum f (at i) y n) (f (at i) (y + n))) (λ i. column_sum f (at i) y (n + 1))
     (λ i hi. omega (arith, column_more f (at i) y n, column_small f (at i) y n h, h (at i) (y + n), hn))
 
-pub less_lanes : (f : ℕ → ℕ → ℕ) (at : ℕ → ℕ) (y n : ℕ) (xs ys : List ℕ) → AreBytes f → n < 8 →
+pub less_lanes : (f : ℕ → ℕ → ℕ) (at : ℕ → ℕ) (y n : ℕ) (xs ys : List ℕ) → AreSamplesAt f → n < 8 →
     xs ≡ sixteen (λ i. column_sum f (at i) y (n + 1)) → ys ≡ sixteen (λ i. f (at i) y)
     → zip2 minus xs ys ≡ sixteen (λ i. column_sum f (at i) (y + 1) n)
 less_lanes f at y n xs ys h hn ex ey =
@@ -247,15 +251,16 @@ abbrev pub paired : (ℕ → ℕ) → ℕ → ℕ
 paired c i = plus (plus (plus (c (i + 0)) (c (i + 1))) (plus (c (i + 2)) (c (i + 3))))
     (plus (plus (c (i + 4)) (c (i + 5))) (plus (c (i + 6)) (c (i + 7))))
 
-paired_is : (c : ℕ → ℕ) (i : ℕ) → ((k : ℕ) → c k ≤ 2040) → paired c i ≡ total (λ k. c (i + k)) 8
-unfolding total
+paired_is : (c : ℕ → ℕ) (i : ℕ) → ((k : ℕ) → c k ≤ 2040) → paired c i ≡ sum_of_first (λ k. c (i + k)) 8
+unfolding sum_of_first
 paired_is c i h = omega (arith, h (i + 0), h (i + 1), h (i + 2), h (i + 3), h (i + 4), h (i + 5), h (i + 6), h (i + 7))
 
-pub areas_of : (f : ℕ → ℕ → ℕ) (at y : ℕ) → AreBytes f → sixteen (λ i. paired (λ k. column_sum f k y 8) (at + i))
+pub areas_of : (f : ℕ → ℕ → ℕ) (at y : ℕ) → AreSamplesAt f → sixteen (λ i. paired (λ k. column_sum f k y 8) (at + i))
     ≡ sixteen (λ i. area_sum f (at + i) y)
 unfolding area_sum
 areas_of f at y h =
-    sixteen_is (λ i. paired (λ k. column_sum f k y 8) (at + i)) (λ i. total (λ k. column_sum f (at + i + k) y 8) 8)
+    sixteen_is (λ i. paired (λ k. column_sum f k y 8) (at + i))
+    (λ i. sum_of_first (λ k. column_sum f (at + i + k) y 8) 8)
     (λ i hi. paired_is (λ k. column_sum f k y 8) (at + i) (λ k. omega (arith, column_small f k y 8 h)))
 
 -- what loads leave as it is
@@ -301,7 +306,7 @@ unfolding sixteen
 right_lanes c = refl
 
 -- the sixteen areas from the first column on, and from the eighth
-pub left_areas : (f : ℕ → ℕ → ℕ) (y : ℕ) (l r : List ℕ) → AreBytes f → l ≡ sixteen (λ i. column_sum f i y 8)
+pub left_areas : (f : ℕ → ℕ → ℕ) (y : ℕ) (l r : List ℕ) → AreSamplesAt f → l ≡ sixteen (λ i. column_sum f i y 8)
     → r ≡ sixteen (λ i. column_sum f (16 + i) y 8) →
     lanes_left l r ≡ sixteen (λ i. area_sum f i y)
 left_areas f y l r h el er =
@@ -310,7 +315,7 @@ left_areas f y l r h el er =
     ∙ sixteen_is (λ i. area_sum f (0 + i) y) (λ i. area_sum f i y) (λ i hi. let e : 0 + i ≡ i = omega arith in
     ap (λ (k : ℕ). area_sum f k y) e)
 
-pub right_areas : (f : ℕ → ℕ → ℕ) (y : ℕ) (l r : List ℕ) → AreBytes f → l ≡ sixteen (λ i. column_sum f i y 8)
+pub right_areas : (f : ℕ → ℕ → ℕ) (y : ℕ) (l r : List ℕ) → AreSamplesAt f → l ≡ sixteen (λ i. column_sum f i y 8)
     → r ≡ sixteen (λ i. column_sum f (16 + i) y 8) →
     moved 8 (lanes_left l r) (lanes_right r) ≡ sixteen (λ i. area_sum f (8 + i) y)
 right_areas f y l r h el er =
@@ -369,8 +374,9 @@ mark_tells xs f most i e hi h = by (leb (f i) most) refl
 
 -- the block in column i of row y differs by no less than its quarters' sums do
 pub ruled_out : (f : ℕ → ℕ → ℕ) (y i tl tr bl br : ℕ) (block : List ℕ) → length block ≡ 256 →
-    tl ≡ area_sum (in_block block) 0 0 → tr ≡ area_sum (in_block block) 8 0 → bl ≡ area_sum (in_block block) 0 8
-    → br ≡ area_sum (in_block block) 8 8 →
+    tl ≡ area_sum (sample_of_block block) 0 0 → tr ≡ area_sum (sample_of_block block) 8 0
+    → bl ≡ area_sum (sample_of_block block) 0 8
+    → br ≡ area_sum (sample_of_block block) 8 8 →
     abs_diff (area_sum f i y) tl + abs_diff (area_sum f (8 + i) y) tr + (abs_diff (area_sum f i (y + 8)) bl + abs_diff
     (area_sum f (8 + i) (y + 8)) br)
     ≤ differences block (square (λ k j. f (i + k) (y + j)))
@@ -391,10 +397,10 @@ ruled_out f y i tl tr bl br block long etl etr ebl ebr =
     (omega arith) (omega arith))) in
     let same : abs_diff (area_sum f i y) tl + abs_diff (area_sum f (8 + i) y) tr +
     (abs_diff (area_sum f i (y + 8)) bl + abs_diff (area_sum f (8 + i) (y + 8)) br)
-    ≡ abs_diff (area_sum g 0 0) (area_sum (in_block block) 0 0) + abs_diff (area_sum g 8 0)
-    (area_sum (in_block block) 8 0)
-    + (abs_diff (area_sum g 0 8) (area_sum (in_block block) 0 8) + abs_diff (area_sum g 8 8)
-    (area_sum (in_block block) 8 8)) = cc (a, b, c, d, etl, etr, ebl, ebr) in
+    ≡ abs_diff (area_sum g 0 0) (area_sum (sample_of_block block) 0 0) + abs_diff (area_sum g 8 0)
+    (area_sum (sample_of_block block) 8 0)
+    + (abs_diff (area_sum g 0 8) (area_sum (sample_of_block block) 0 8) + abs_diff (area_sum g 8 8)
+    (area_sum (sample_of_block block) 8 8)) = cc (a, b, c, d, etl, etr, ebl, ebr) in
     subst (λ (n : ℕ). n ≤ differences block (square g)) (sym same) (quarters_apart block g long)
 
 pub more_than : (m s n : ℕ) → m < s → s ≤ n → m < n
@@ -403,7 +409,7 @@ more_than m s n h k = omega (arith, h, k)
 -- ---- a block's own rows, in its sixteen columns twice
 
 abbrev pub twice : List ℕ → ℕ → ℕ → ℕ
-twice block x y = in_block block (x % 16) y
+twice block x y = sample_of_block block (x % 16) y
 
 pub block_row_twice : (block row : List ℕ) (j : ℕ) → row ≡ slice_range block (16 * j) (16 * j + 16)
     → IsRow (twice block) j row row
@@ -413,20 +419,21 @@ block_row_twice block row j e =
     let at = λ (i : ℕ) (hi : i < 16). ap (λ (l : List ℕ). get_or l i 0) (e ∙ part)
     ∙ get_or-take 16 (drop (16 * j) block) i 0 hi ∙ get_or-drop (16 * j) block i 0 in
     record {
-      left = λ i hi. let k : i ≡ i % 16 = omega (arith, hi) in at i hi ∙ ap (λ (m : ℕ). in_block block m j) k;
-      right = λ i hi. let k : i ≡ (16 + i) % 16 = omega (arith, hi) in at i hi ∙ ap (λ (m : ℕ). in_block block m j) k;
+      left = λ i hi. let k : i ≡ i % 16 = omega (arith, hi) in at i hi ∙ ap (λ (m : ℕ). sample_of_block block m j) k;
+      right = λ i hi. let k : i ≡ (16 + i) % 16 = omega (arith, hi) in at i hi
+          ∙ ap (λ (m : ℕ). sample_of_block block m j) k;
     }
 
 -- a quarter of the block
 pub quarter_is : (block xs : List ℕ) (u v : ℕ) → u ≤ 8 → xs ≡ sixteen (λ i. area_sum (twice block) i v)
-    → get_or xs u 0 ≡ area_sum (in_block block) u v
+    → get_or xs u 0 ≡ area_sum (sample_of_block block) u v
 quarter_is block xs u v hu e =
     ap (λ (l : List ℕ). get_or l u 0) e ∙ at_sixteen (λ i. area_sum (twice block) i v) u (omega (arith, hu))
-    ∙ area_is (twice block) (in_block block) u v u v (λ i j hi hj. let k : (u + i) % 16
-    ≡ u + i = omega (arith, hu, hi) in ap (λ (m : ℕ). in_block block m (v + j)) k)
+    ∙ area_is (twice block) (sample_of_block block) u v u v (λ i j hi hj. let k : (u + i) % 16
+    ≡ u + i = omega (arith, hu, hi) in ap (λ (m : ℕ). sample_of_block block m (v + j)) k)
 
 pub no_lanes : (f : ℕ → ℕ → ℕ) (at : ℕ → ℕ) (y : ℕ) → replicate 16 0 ≡ sixteen (λ i. column_sum f (at i) y 0)
-unfolding sixteen column_sum total
+unfolding sixteen column_sum sum_of_first
 no_lanes f at y = refl
 
 all_same : (n : ℕ) → replicate 16 n ≡ sixteen (λ _. n)
@@ -463,5 +470,5 @@ away_lanes xs f n hn hf e =
     ∙ sixteen_is (λ i. smaller (f i) n) (λ i. abs_diff (f i) n) (λ i hi. smaller_is (f i) n (hf i) hn)
 
 pub block_area_small : (block : List ℕ) (n u v : ℕ) → ((k : ℕ) → get_or block k 0 < 256)
-    → n ≡ area_sum (in_block block) u v → n ≤ 16320
-block_area_small block n u v h e = omega (arith, e, area_small (in_block block) u v (λ i j. h (16 * j + i)))
+    → n ≡ area_sum (sample_of_block block) u v → n ≤ 16320
+block_area_small block n u v h e = omega (arith, e, area_small (sample_of_block block) u v (λ i j. h (16 * j + i)))

@@ -8,9 +8,9 @@ use Rattle.h263_types.specs.Sizes.{mbs_of}
 use Rattle.h263_types.specs.Vectors.{InReach}
 use Rattle.h263_planes.specs.Picture.{Picture}
 use Rattle.motion_search.specs.declared.candidate.Candidate.{Candidate}
-use Rattle.motion_search.specs.Order.{before, least, first_of}
+use Rattle.motion_search.specs.Order.{before, least, earlier_of}
 use Rattle.motion_search.specs.Cost.{difference_of, lead_of, cost_of, candidate_of}
-use Rattle.motion_search.specs.Vectors.{in_reach, zero_vector, whole_vectors, neighbours, IsWholeSample, IsNear}
+use Rattle.motion_search.specs.Vectors.{in_reach, zero_vector, whole_vectors, neighbours, IsWholeSample, IsHalfAround}
 use Rattle.motion_search.specs.Best.{candidates_of, best_whole, best_near, IsCandidate, IsWholeCandidate}
 use Rattle.motion_search.proofs.Orders.{first_has, other_not_before, still_not_before, least_has, first_not_before, none_before, is_least, not_itself, dearer_not_before}
 use Rattle.motion_search.proofs.Leads.{zero_or_behind}
@@ -102,16 +102,16 @@ module _ (block : List ℕ) (reference : Picture) (mb rounding : ℕ) where
 
   -- ---- half samples
 
-  pub itself : (v : Vector) → IsNear v v
+  pub itself : (v : Vector) → IsHalfAround v v
   itself v = record { x = omega (arith, ints); y = omega (arith, ints) }
 
   -- the best of a candidate and its neighbours is a candidate
   pub near_is_candidate : (best : Candidate) → IsCandidate block reference mb rounding best →
       IsCandidate block reference mb rounding (best_near block reference mb rounding best)
-      × IsNear best.vector (best_near block reference mb rounding best).vector
+      × IsHalfAround best.vector (best_near block reference mb rounding best).vector
   unfolding best_near
   near_is_candidate best h =
-      let is = λ (c : Candidate). IsCandidate block reference mb rounding c × IsNear best.vector c.vector in
+      let is = λ (c : Candidate). IsCandidate block reference mb rounding c × IsHalfAround best.vector c.vector in
       least_has is best (candidates_of block reference mb rounding (neighbours best.vector)) (h, itself best.vector)
       (to_candidates is (neighbours best.vector)
       (all_near (λ v. in_reach reference.format mb v ≡ true
@@ -119,7 +119,7 @@ module _ (block : List ℕ) (reference : Picture) (mb rounding : ℕ) where
       (λ v near reaches. (is_candidate v ((reach_is reference.format mb v).0 reaches), near))))
 
   pub none_before_near : (best : Candidate) (v : Vector) → IsCandidate block reference mb rounding best
-      → IsNear best.vector v → InReach reference.format mb v.x v.y →
+      → IsHalfAround best.vector v → InReach reference.format mb v.x v.y →
       before (candidate_of block reference mb rounding v) (best_near block reference mb rounding best) ≡ false
   unfolding best_near
   none_before_near best v is near reaches =
@@ -132,8 +132,8 @@ module _ (block : List ℕ) (reference : Picture) (mb rounding : ℕ) where
       ((reach_is reference.format mb v).1 reaches)
 
   pub is_best_near : (best c : Candidate) → IsCandidate block reference mb rounding best
-      → IsCandidate block reference mb rounding c → IsNear best.vector c.vector →
-      ((v : Vector) → IsNear best.vector v → InReach reference.format mb v.x v.y
+      → IsCandidate block reference mb rounding c → IsHalfAround best.vector c.vector →
+      ((v : Vector) → IsHalfAround best.vector v → InReach reference.format mb v.x v.y
       → before (candidate_of block reference mb rounding v) c ≡ false) →
       c ≡ best_near block reference mb rounding best
   unfolding best_near
@@ -182,14 +182,15 @@ module _ (block : List ℕ) (reference : Picture) (mb rounding : ℕ) where
 
   -- the first of the best one and a vector, where that is in reach
   abbrev pub step_of : Vector → Candidate → Candidate
-  step_of v now = cond (in_reach reference.format mb v) (first_of now (candidate_of block reference mb rounding v)) now
+  step_of v now = cond (in_reach reference.format mb v) (earlier_of now (candidate_of block reference mb rounding v))
+      now
 
   pub step_has : (P : Candidate → Type 0) (v : Vector) (now : Candidate) → P now → (InReach reference.format mb v.x v.y
       → P (candidate_of block reference mb rounding v)) → P (step_of v now)
   step_has P v now old new = by (in_reach reference.format mb v) (reach_is reference.format mb v).0
     where
       by : (b : Bool) → (b ≡ true → InReach reference.format mb v.x v.y)
-          → P (cond b (first_of now (candidate_of block reference mb rounding v)) now)
+          → P (cond b (earlier_of now (candidate_of block reference mb rounding v)) now)
       by true h = first_has P now (candidate_of block reference mb rounding v) old (new (h refl))
       by false h = old
 
@@ -198,7 +199,7 @@ module _ (block : List ℕ) (reference : Picture) (mb rounding : ℕ) where
       ≡ false
   step_kept d v now h = by (in_reach reference.format mb v)
     where
-      by : (b : Bool) → before d (cond b (first_of now (candidate_of block reference mb rounding v)) now) ≡ false
+      by : (b : Bool) → before d (cond b (earlier_of now (candidate_of block reference mb rounding v)) now) ≡ false
       by true = still_not_before d now (candidate_of block reference mb rounding v) h
       by false = h
 
@@ -207,25 +208,25 @@ module _ (block : List ℕ) (reference : Picture) (mb rounding : ℕ) where
       → before (candidate_of block reference mb rounding v) (step_of v now) ≡ false
   step_none v now h =
       subst (λ (b : Bool). before (candidate_of block reference mb rounding v)
-      (cond b (first_of now (candidate_of block reference mb rounding v)) now) ≡ false)
+      (cond b (earlier_of now (candidate_of block reference mb rounding v)) now) ≡ false)
       (sym ((reach_is reference.format mb v).1 h)) (other_not_before now (candidate_of block reference mb rounding v))
 
   -- the first of two is what a step keeps
   pub taken : (v : Vector) (now : Candidate) → InReach reference.format mb v.x v.y
-      → first_of now (candidate_of block reference mb rounding v) ≡ step_of v now
-  taken v now h = sym (ap (λ (b : Bool). cond b (first_of now (candidate_of block reference mb rounding v)) now)
+      → earlier_of now (candidate_of block reference mb rounding v) ≡ step_of v now
+  taken v now h = sym (ap (λ (b : Bool). cond b (earlier_of now (candidate_of block reference mb rounding v)) now)
       ((reach_is reference.format mb v).1 h))
 
   pub whole_step : (u v : Vector) (now next : Candidate) → InReach reference.format mb v.x v.y → u ≡ v
-      → next ≡ first_of now (candidate_of block reference mb rounding u) → next ≡ step_of v now
+      → next ≡ earlier_of now (candidate_of block reference mb rounding u) → next ≡ step_of v now
   whole_step u v now next h same e = e
-      ∙ ap (λ (w : Vector). first_of now (candidate_of block reference mb rounding w)) same ∙ taken v now h
+      ∙ ap (λ (w : Vector). earlier_of now (candidate_of block reference mb rounding w)) same ∙ taken v now h
 
   pub passed_over : (v : Vector) (now : Candidate) → (InReach reference.format mb v.x v.y → ⊥) → now ≡ step_of v now
   passed_over v now h = by (in_reach reference.format mb v) (reach_is reference.format mb v).0
     where
       by : (b : Bool) → (b ≡ true → InReach reference.format mb v.x v.y)
-          → now ≡ cond b (first_of now (candidate_of block reference mb rounding v)) now
+          → now ≡ cond b (earlier_of now (candidate_of block reference mb rounding v)) now
       by true k = absurd (h (k refl))
       by false k = refl
 

@@ -3,7 +3,7 @@ use Rattle.std.proofs.Common.{◌≡◌, ℕ, ◌+◌, ◌/◌, ◌%◌, ◌<◌
 use Rattle.std.proofs.lemmas.Int.{ints}
 use Rattle.h263_types.specs.declared.vector.Vector.{Vector}
 use Rattle.motion_search.specs.declared.candidate.Candidate.{Candidate}
-use Rattle.motion_search.specs.Order.{first_of}
+use Rattle.motion_search.specs.Order.{earlier_of}
 use Rattle.motion_search.specs.Vectors.{zero_vector, IsEven}
 use Rattle.motion_search.proofs.Blocks.{costing}
 use Rattle.motion_search.proofs.Leads.{not_before_by_differences}
@@ -25,7 +25,7 @@ not_zero v n hn even e =
 
 -- with more differences than the best one costs it doesn't come before that
 pub stays_first : (now : Candidate) (v : Vector) (n s : ℕ) → n < 8 → IsEven v → now.cost <ℤ pos s
-    → now ≡ first_of now (costing (eighth v n) s)
+    → now ≡ earlier_of now (costing (eighth v n) s)
 stays_first now v n s hn even more =
     sym (ap (λ (b : Bool). cond b (costing (eighth v n) s) now)
     (not_before_by_differences (eighth v n) s now more (λ e. absurd (not_zero v n hn even e))))

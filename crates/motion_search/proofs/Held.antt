@@ -16,7 +16,7 @@ use Rattle.motion_search.specs.Cost.{square}
 use Rattle.motion_search.specs.declared.areas.Quarters.{Quarters}
 use Rattle.motion_search.specs.declared.kept.AreaRows.{AreaRows}
 use Rattle.motion_search.specs.declared.kept.KeptSums.{KeptSums}
-use Rattle.motion_search.specs.Areas.{area_sum, sixteen, AreBytes, AreQuarters, AreSomeBeside, AreSumsOf, IsBeside, IsRow, LeavesRest, samples_from}
+use Rattle.motion_search.specs.Areas.{area_sum, sixteen, AreSamplesAt, AreQuarters, AreSomeBeside, AreSumsOf, IsBeside, IsRow, LeavesRest, samples_from}
 use Rattle.motion_search.proofs.AreaSums.{area_is, area_small, at_sixteen, more_than, ruled_out}
 
 -- a number reaches another, or not
@@ -51,7 +51,8 @@ lent_beside p x z y row f xs ys b e hx hy =
     }
 
 -- the same of row m of rows that are lent together
-pub lent_rows_beside : (p : Picture) (x z first width count at m row : ℕ) (f : ℕ → ℕ → ℕ) (lefts rights xs ys : List ℕ) →
+pub lent_rows_beside : (p : Picture) (x z first width count at m row : ℕ) (f : ℕ → ℕ
+    → ℕ) (lefts rights xs ys : List ℕ) →
     IsBeside p x z f → m < count → at ≡ width * m → first + m ≡ row
     → ((i k : ℕ) → i < 16 → k < count → slice_index lefts (width * k + i) ≡ sample_at p Y (x + i) (first + k))
     → ((i k : ℕ) → i < 16 → k < count → slice_index rights (width * k + i) ≡ sample_at p Y (z + i) (first + k))
@@ -88,10 +89,10 @@ again_beside p x =
           ap (λ (k : ℕ). sample_at p Y k j) place;
     }
 
-pub again_bytes : (p : Picture) (x : ℕ) → IsPicture p → AreBytes (again p x)
+pub again_bytes : (p : Picture) (x : ℕ) → IsPicture p → AreSamplesAt (again p x)
 again_bytes p x h = λ i j. h.samples Y _
 
-pub next_bytes : (p : Picture) (x : ℕ) → IsPicture p → AreBytes (samples_from p x)
+pub next_bytes : (p : Picture) (x : ℕ) → IsPicture p → AreSamplesAt (samples_from p x)
 next_bytes p x h = λ i j. h.samples Y _
 
 pub some_next : (p : Picture) (x z : ℕ) → IsPicture p → z ≡ x + 16 → AreSomeBeside p x z
@@ -189,7 +190,8 @@ stored_twice f y mid new l r at i el er first second kept hi = by (cases_le 8 i)
         ∙ at_sixteen (λ i. area_sum f i y) i (omega (arith, h))
 
 -- sums that were small stay so where areas are written among them
-pub some_small : (f : ℕ → ℕ → ℕ) (y : ℕ) (old new : List ℕ) (at : ℕ) → AreBytes f → ((k : ℕ) → (k < at) ⊎ (at + 24 ≤ k)
+pub some_small : (f : ℕ → ℕ → ℕ) (y : ℕ) (old new : List ℕ) (at : ℕ) → AreSamplesAt f
+    → ((k : ℕ) → (k < at) ⊎ (at + 24 ≤ k)
     → get_or new k 0 ≡ get_or old k 0) →
     ((i : ℕ) → i < 24 → get_or new (at + i) 0 ≡ area_sum f i y) → ((k : ℕ) → get_or old k 0 ≤ 16320) → (k : ℕ)
     → get_or new k 0 ≤ 16320

@@ -9,7 +9,7 @@ use Rattle.std.specs.declared.cmp.Ordering.{Ordering}
 use Rattle.std.specs.declared.cmp.Ordering.TheVariants.{Less, Equal, Greater}
 use Rattle.std.specs.Ordering.{is_lt, is_gt, is_eq, int_cmp, nat_cmp, ordering_then, ordering_reverse}
 use Rattle.motion_search.specs.declared.candidate.Candidate.{Candidate}
-use Rattle.motion_search.specs.Order.{length_of, compared, before, first_of, least}
+use Rattle.motion_search.specs.Order.{length_of, compared, before, earlier_of, least}
 
 pub total : IsTotalOrder compared
 total = then_total (on_total (λ (c : Candidate). c.cost) int_cmp_total)
@@ -74,14 +74,14 @@ same_candidates c d h k =
 
 -- ---- the first of two
 
-pub best_not_before : (b c : Candidate) → before b (first_of b c) ≡ false
+pub best_not_before : (b c : Candidate) → before b (earlier_of b c) ≡ false
 best_not_before b c = by (before c b) refl
   where
     by : (t : Bool) → before c b ≡ t → before b (cond t c b) ≡ false
     by true h = before_is b c ∙ turn (compared c b) h
     by false h = not_itself b
 
-pub other_not_before : (b c : Candidate) → before c (first_of b c) ≡ false
+pub other_not_before : (b c : Candidate) → before c (earlier_of b c) ≡ false
 other_not_before b c = by (before c b) refl
   where
     by : (t : Bool) → before c b ≡ t → before c (cond t c b) ≡ false
@@ -89,7 +89,7 @@ other_not_before b c = by (before c b) refl
     by false h = h
 
 -- a fact of both is one of the first
-pub first_has : (P : Candidate → Type 0) (b c : Candidate) → P b → P c → P (first_of b c)
+pub first_has : (P : Candidate → Type 0) (b c : Candidate) → P b → P c → P (earlier_of b c)
 first_has P b c hb hc = by (before c b)
   where
     by : (t : Bool) → P (cond t c b)
@@ -97,8 +97,8 @@ first_has P b c hb hc = by (before c b)
     by false = hb
 
 -- what doesn't come before the best so far doesn't come before the first of it and another
-pub still_not_before : (d b c : Candidate) → before d b ≡ false → before d (first_of b c) ≡ false
-still_not_before d b c h = not_before_first d b (first_of b c) h (best_not_before b c)
+pub still_not_before : (d b c : Candidate) → before d b ≡ false → before d (earlier_of b c) ≡ false
+still_not_before d b c h = not_before_first d b (earlier_of b c) h (best_not_before b c)
 
 -- ---- the least of a list
 
@@ -114,7 +114,7 @@ least_has P first (c ∷ cs) h k = first_has P (least first cs) c (least_has P f
 pub first_not_before : (first : Candidate) (cs : List Candidate) → before first (least first cs) ≡ false
 unfolding least
 first_not_before first [] = not_itself first
-first_not_before first (c ∷ cs) = not_before_first first (least first cs) (first_of (least first cs) c)
+first_not_before first (c ∷ cs) = not_before_first first (least first cs) (earlier_of (least first cs) c)
     (first_not_before first cs) (best_not_before (least first cs) c)
 
 -- none of the others does
@@ -124,7 +124,8 @@ none_before first [] = All-nil _
 none_before first (c ∷ cs) =
     All-cons (λ d. before d (least first (c ∷ cs)) ≡ false) c cs (other_not_before (least first cs) c)
     (All-weaker (λ d. before d (least first cs) ≡ false) (λ d. before d (least first (c ∷ cs)) ≡ false)
-    (λ d h. not_before_first d (least first cs) (first_of (least first cs) c) h (best_not_before (least first cs) c)) cs
+    (λ d h. not_before_first d (least first cs) (earlier_of (least first cs) c) h (best_not_before (least first cs) c))
+    cs
     (none_before first cs))
 
 -- one of them before which none comes is the least

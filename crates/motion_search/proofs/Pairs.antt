@@ -10,7 +10,7 @@ use Rattle.half_sample.specs.Around.{down_by, right_by, IsBetween}
 use Rattle.half_sample.specs.Prediction.{one_below}
 use Rattle.motion_search.specs.Cost.{square, difference_of, predicted_of}
 use Rattle.motion_search.specs.Rows.{rows_from}
-use Rattle.motion_search.specs.Vectors.{around, IsEven}
+use Rattle.motion_search.specs.Vectors.{vector_around, IsEven}
 use Rattle.motion_search.proofs.Blocks.{is_square, row_cut}
 use Rattle.motion_search.proofs.Squares.{same_vectors}
 
@@ -50,31 +50,32 @@ predicted_differ block samples p mb r v e = ap (differences block) e
 
 -- ---- the neighbours of a vector, from the one above on the left
 
-module _ (v w : Vector) (e : w ≡ around v 0) where
-  from_up_left : (to : Vector → Vector) (k : ℕ) → (to (around v 0)).x ≡ (around v k).x
-      → (to (around v 0)).y ≡ (around v k).y → to w ≡ around v k
+module _ (v w : Vector) (e : w ≡ vector_around v 0) where
+  from_up_left : (to : Vector → Vector) (k : ℕ) → (to (vector_around v 0)).x ≡ (vector_around v k).x
+      → (to (vector_around v 0)).y ≡ (vector_around v k).y → to w ≡ vector_around v k
   from_up_left to k ex ey = ap to e
-      ∙ same_vectors (to (around v 0)).x (around v k).x (to (around v 0)).y (around v k).y ex ey
+      ∙ same_vectors (to (vector_around v 0)).x (vector_around v k).x (to (vector_around v 0)).y
+      (vector_around v k).y ex ey
 
-  pub above : right_by 1 w ≡ around v 1
+  pub above : right_by 1 w ≡ vector_around v 1
   above = from_up_left (right_by 1) 1 (omega (arith, ints)) (omega (arith, ints))
 
-  pub above_right : right_by 2 w ≡ around v 2
+  pub above_right : right_by 2 w ≡ vector_around v 2
   above_right = from_up_left (right_by 2) 2 (omega (arith, ints)) (omega (arith, ints))
 
-  pub at_left : down_by 1 w ≡ around v 3
+  pub at_left : down_by 1 w ≡ vector_around v 3
   at_left = from_up_left (down_by 1) 3 (omega (arith, ints)) (omega (arith, ints))
 
-  pub at_right : down_by 1 (right_by 2 w) ≡ around v 5
+  pub at_right : down_by 1 (right_by 2 w) ≡ vector_around v 5
   at_right = from_up_left (λ u. down_by 1 (right_by 2 u)) 5 (omega (arith, ints)) (omega (arith, ints))
 
-  pub below_left : one_below w ≡ around v 6
+  pub below_left : one_below w ≡ vector_around v 6
   below_left = from_up_left one_below 6 (omega (arith, ints)) (omega (arith, ints))
 
-  pub below : one_below (right_by 1 w) ≡ around v 7
+  pub below : one_below (right_by 1 w) ≡ vector_around v 7
   below = from_up_left (λ u. one_below (right_by 1 u)) 7 (omega (arith, ints)) (omega (arith, ints))
 
-  pub below_right : one_below (right_by 2 w) ≡ around v 8
+  pub below_right : one_below (right_by 2 w) ≡ vector_around v 8
   below_right = from_up_left (λ u. one_below (right_by 2 u)) 8 (omega (arith, ints)) (omega (arith, ints))
 
 -- half a sample before a whole one
@@ -83,5 +84,5 @@ half_before z h = let e : unsigned_abs (z +ℤ (pos 0 -ℤ pos 1)) % 2 ≡ 1 = o
     ap (λ (n : ℕ). nat_eq n 1) e
 
 -- of a vector of whole samples the one above on the left leads half a sample across and down
-pub up_left_between : (v : Vector) → IsEven v → IsBetween (around v 0)
+pub up_left_between : (v : Vector) → IsEven v → IsBetween (vector_around v 0)
 up_left_between v h = record { x = half_before v.x h.x; y = half_before v.y h.y }

@@ -8,7 +8,7 @@ use Rattle.h263_types.specs.Vectors.{whole_place}
 use Rattle.h263_planes.specs.Picture.{Picture}
 use Rattle.h263_planes.specs.Samples.{sample_at}
 use Rattle.h263_planes.specs.declared.Plane.TheVariants.{Y}
-use Rattle.half_sample.specs.Prediction.{predicted_sample, interpolated, is_half, moved, whole_part}
+use Rattle.half_sample.specs.Prediction.{predicted_sample, interpolated, is_half, moved_whole, whole_part}
 use Rattle.sad_kernel.specs.Differences.{differences}
 use Rattle.motion_search.specs.declared.candidate.Candidate.{Candidate}
 use Rattle.motion_search.specs.Cost.{square, difference_of, candidate_of}
@@ -19,7 +19,7 @@ use Rattle.motion_search.proofs.Blocks.{costing, is_square, length-square, get_o
 not_half : (v : ℤ) → unsigned_abs v % 2 ≡ 0 → is_half Y v ≡ false
 not_half v h = grind (arith, nat_tests)
 
-moved_more : (a x i : ℕ) (v : ℤ) → pos x ≡ whole_place a v → moved (a + i) (whole_part Y v) ≡ x + i
+moved_more : (a x i : ℕ) (v : ℤ) → pos x ≡ whole_place a v → moved_whole (a + i) (whole_part Y v) ≡ x + i
 moved_more a x i v h =
     let e : pos (a + i) +ℤ whole_part Y v ≡ pos (x + i) = omega (arith, ints, h) in
     ap unsigned_abs e
@@ -42,8 +42,8 @@ whole_predicts block p mb r x y v even ex ey =
     ap (differences block)
     (is_square (square seen) predicted (length-square seen)
     (λ j i hj hi. get_or-square seen j i hj hi
-    ∙ sym (whole_sample p (is_half Y v.x) (is_half Y v.y) r (moved (left + i) (whole_part Y v.x)) (x + i)
-    (moved (top + j) (whole_part Y v.y)) (y + j)
+    ∙ sym (whole_sample p (is_half Y v.x) (is_half Y v.y) r (moved_whole (left + i) (whole_part Y v.x)) (x + i)
+    (moved_whole (top + j) (whole_part Y v.y)) (y + j)
     (not_half v.x even.x) (not_half v.y even.y) (moved_more left x i v.x ex) (moved_more top y j v.y ey))))
 
 -- ---- what rounding leaves as it is
@@ -64,8 +64,8 @@ not_rounded block p mb r v even =
     ap (λ (l : List ℕ). costing v (differences block l))
     (is_square (square (predicted r)) (predicted 0) (length-square (predicted r))
     (λ j i hj hi. get_or-square (predicted r) j i hj hi
-    ∙ even_sample p (is_half Y v.x) (is_half Y v.y) r (moved (left + i) (whole_part Y v.x))
-    (moved (top + j) (whole_part Y v.y)) (not_half v.x even.x) (not_half v.y even.y)))
+    ∙ even_sample p (is_half Y v.x) (is_half Y v.y) r (moved_whole (left + i) (whole_part Y v.x))
+    (moved_whole (top + j) (whole_part Y v.y)) (not_half v.x even.x) (not_half v.y even.y)))
 
 -- candidates of whole samples are those of the other rounding too
 pub whole_not_rounded : (block : List ℕ) (p : Picture) (mb radius r : ℕ) (c : Candidate)
@@ -80,7 +80,7 @@ whole_not_rounded block p mb radius r c h =
       };
     }
 
-stands_still : (x : ℕ) → moved x (whole_part Y (pos 0)) ≡ x
+stands_still : (x : ℕ) → moved_whole x (whole_part Y (pos 0)) ≡ x
 stands_still x = omega (arith, ints)
 
 -- the zero vector predicts a picture's own samples

@@ -14,7 +14,7 @@ use Rattle.h263_types.specs.declared.vector.Vector.{Vector}
 use Rattle.h263_types.specs.declared.format.Format.TheVariants.{SubQcif, Qcif, Cif}
 use Rattle.h263_types.specs.Sizes.{width_of, height_of, columns_of, mbs_of}
 use Rattle.h263_types.specs.Vectors.{whole_place, InSide, InReach}
-use Rattle.motion_search.specs.Vectors.{in_side, in_reach, whole_component, whole_at, whole_vector, whole_vectors, moved_by, around, neighbours, zero_vector, IsEven, IsWholeSample, IsNear}
+use Rattle.motion_search.specs.Vectors.{in_side, in_reach, whole_component, whole_at, whole_vector, whole_vectors, moved_by, vector_around, neighbours, zero_vector, IsEven, IsWholeSample, IsHalfAround}
 
 -- ---- lists
 
@@ -164,10 +164,10 @@ zero_is_whole radius = record { even = record { x = refl; y = refl }; x = omega 
 
 -- ---- the neighbours
 
-near_by : (v : Vector) (x y : ℤ) → unsigned_abs x ≤ 1 → unsigned_abs y ≤ 1 → IsNear v (moved_by v x y)
+near_by : (v : Vector) (x y : ℤ) → unsigned_abs x ≤ 1 → unsigned_abs y ≤ 1 → IsHalfAround v (moved_by v x y)
 near_by v x y hx hy = record { x = omega (arith, ints, hx); y = omega (arith, ints, hy) }
 
-pub all_near : (P : Vector → Type 0) (v : Vector) → ((w : Vector) → IsNear v w → P w) → All P (neighbours v)
+pub all_near : (P : Vector → Type 0) (v : Vector) → ((w : Vector) → IsHalfAround v w → P w) → All P (neighbours v)
 unfolding neighbours
 all_near P v h =
     let m : ℤ = neg_ℤ (pos 1) in
@@ -220,7 +220,7 @@ one_by P v (negsuc zero) (negsuc (suc y)) hx hy h all = absurd (omega arith)
 led_there : (x x' : ℤ) → x +ℤ (x' -ℤ x) ≡ x'
 led_there x x' = omega (arith, ints)
 
-pub near_one : (P : Vector → Type 0) (v w : Vector) → IsNear v w → P v → All P (neighbours v) → P w
+pub near_one : (P : Vector → Type 0) (v w : Vector) → IsHalfAround v w → P v → All P (neighbours v) → P w
 near_one P v w near h all =
     subst P (same_vectors _ w.x _ w.y (led_there v.x w.x) (led_there v.y w.y))
     (one_by P v (w.x -ℤ v.x) (w.y -ℤ v.y) near.x near.y h all)
@@ -232,7 +232,8 @@ around_index : (z : ℤ) → unsigned_abs z ≤ 1 → (unsigned_abs (z +ℤ pos 
 around_index z h = (omega (arith, ints, h), omega (arith, ints, h))
 
 -- what is true of the nine in reach is true of each near vector
-pub near_around : (P : Vector → Type 0) (v w : Vector) → IsNear v w → ((k : ℕ) → k < 9 → P (around v k)) → P w
+pub near_around : (P : Vector → Type 0) (v w : Vector) → IsHalfAround v w → ((k : ℕ) → k < 9 → P (vector_around v k))
+    → P w
 near_around P v w near all =
     let i : ℕ = unsigned_abs ((w.x -ℤ v.x) +ℤ pos 1) in
     let j : ℕ = unsigned_abs ((w.y -ℤ v.y) +ℤ pos 1) in
@@ -248,19 +249,20 @@ near_around P v w near all =
     (all (j * 3 + i) small)
 
 -- what is true of the vector itself and of its eight neighbours
-pub near_others : (P : Vector → Type 0) (v w : Vector) → IsNear v w → P v → ((n : ℕ) → n < 8 → P (around v (n + n / 4)))
+pub near_others : (P : Vector → Type 0) (v w : Vector) → IsHalfAround v w → P v
+    → ((n : ℕ) → n < 8 → P (vector_around v (n + n / 4)))
     → P w
 near_others P v w near own others = near_around P v w near (λ k hk. by k hk (cases_order k 4))
   where
-    by : (k : ℕ) → k < 9 → (k ≡ 4) ⊎ ((k < 4) ⊎ (4 < k)) → P (around v k)
-    by k hk (inl e) = subst (λ (m : ℕ). P (around v m)) (sym e)
+    by : (k : ℕ) → k < 9 → (k ≡ 4) ⊎ ((k < 4) ⊎ (4 < k)) → P (vector_around v k)
+    by k hk (inl e) = subst (λ (m : ℕ). P (vector_around v m)) (sym e)
         (subst P (same_vectors v.x _ v.y _ (sym (stays v.x (pos 0) refl)) (sym (stays v.y (pos 0) refl))) own)
     by k hk (inr (inl above)) = let e : k + k / 4 ≡ k = omega (arith, above) in
-        subst (λ (m : ℕ). P (around v m)) e (others k (omega (arith, above)))
+        subst (λ (m : ℕ). P (vector_around v m)) e (others k (omega (arith, above)))
     by k hk (inr (inr below)) = let e : (k - 1) + (k - 1) / 4 ≡ k = omega (arith, hk, below) in
-        subst (λ (m : ℕ). P (around v m)) e (others (k - 1) (omega (arith, hk, below)))
+        subst (λ (m : ℕ). P (vector_around v m)) e (others (k - 1) (omega (arith, hk, below)))
 
-pub around_is_near : (v : Vector) (k : ℕ) → k < 9 → IsNear v (around v k)
+pub around_is_near : (v : Vector) (k : ℕ) → k < 9 → IsHalfAround v (vector_around v k)
 around_is_near v k h = record { x = omega (arith, ints); y = omega (arith, ints) }
 
 -- ---- the square of whole samples by its columns and rows

@@ -11,20 +11,20 @@ use Rattle.motion_search.specs.declared.kept.AreaRows.{AreaRows}
 use Rattle.motion_search.specs.declared.kept.KeptSums.{KeptSums}
 
 -- f 0 + f 1 + .. + f (n - 1)
-unfoldable pub total : (ℕ → ℕ) → ℕ → ℕ
-total f zero = 0
-total f (suc n) = total f n + f n
+unfoldable pub sum_of_first : (ℕ → ℕ) → ℕ → ℕ
+sum_of_first f zero = 0
+sum_of_first f (suc n) = sum_of_first f n + f n
 
 -- the sum of the n samples of column x from row y down; samples are given by their column and row
 unfoldable pub column_sum : (ℕ → ℕ → ℕ) → ℕ → ℕ → ℕ → ℕ
-column_sum f x y n = total (λ j. f x (y + j)) n
+column_sum f x y n = sum_of_first (λ j. f x (y + j)) n
 
 -- the sum of the 8 x 8 samples at column x of row y
 unfoldable pub area_sum : (ℕ → ℕ → ℕ) → ℕ → ℕ → ℕ
-area_sum f x y = total (λ i. column_sum f (x + i) y 8) 8
+area_sum f x y = sum_of_first (λ i. column_sum f (x + i) y 8) 8
 
-abbrev pub AreBytes : (ℕ → ℕ → ℕ) → Type 0
-AreBytes f = (i j : ℕ) → f i j < 256
+abbrev pub AreSamplesAt : (ℕ → ℕ → ℕ) → Type 0
+AreSamplesAt f = (i j : ℕ) → f i j < 256
 
 -- sixteen lanes by their places
 unfoldable pub sixteen : (ℕ → ℕ) → List ℕ
@@ -41,17 +41,17 @@ pub record AreColumns (f : ℕ → ℕ → ℕ) (y n : ℕ) (c : Columns) : Type
   pub right : c.right ≡ sixteen (λ i. column_sum f (16 + i) y n)
 
 -- the samples of a block by their column and row
-abbrev pub in_block : List ℕ → ℕ → ℕ → ℕ
-in_block block i j = slice_index block (16 * j + i)
+abbrev pub sample_of_block : List ℕ → ℕ → ℕ → ℕ
+sample_of_block block i j = slice_index block (16 * j + i)
 
 -- the sums of the four quarters of a block of samples
 pub record AreQuarters (block : List ℕ) (q : Quarters) : Type 0 where
   pub long : length block ≡ 256
   pub samples : AreSamples block
-  pub top_left : q.top_left ≡ area_sum (in_block block) 0 0
-  pub top_right : q.top_right ≡ area_sum (in_block block) 8 0
-  pub bottom_left : q.bottom_left ≡ area_sum (in_block block) 0 8
-  pub bottom_right : q.bottom_right ≡ area_sum (in_block block) 8 8
+  pub top_left : q.top_left ≡ area_sum (sample_of_block block) 0 0
+  pub top_right : q.top_right ≡ area_sum (sample_of_block block) 8 0
+  pub bottom_left : q.bottom_left ≡ area_sum (sample_of_block block) 0 8
+  pub bottom_right : q.bottom_right ≡ area_sum (sample_of_block block) 8 8
 
 -- the luma samples of a picture from column x on
 abbrev pub samples_from : Picture → ℕ → ℕ → ℕ → ℕ
@@ -65,14 +65,14 @@ pub record IsBeside (p : Picture) (x z : ℕ) (f : ℕ → ℕ → ℕ) : Type 0
 -- there are samples that are these
 pub record AreSomeBeside (p : Picture) (x z : ℕ) : Type 0 where
   pub samples : ℕ → ℕ → ℕ
-  pub bytes : AreBytes samples
+  pub bytes : AreSamplesAt samples
   pub beside : IsBeside p x z samples
 
 -- the sums of eight rows of some samples
 pub record AreSomeColumns (c : Columns) : Type 0 where
   pub samples : ℕ → ℕ → ℕ
   pub row : ℕ
-  pub bytes : AreBytes samples
+  pub bytes : AreSamplesAt samples
   pub sums : AreColumns samples row 8 c
 
 -- sums that are kept of a picture: those of all areas in the rows of areas from `first` to before

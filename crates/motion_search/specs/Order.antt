@@ -23,10 +23,10 @@ abbrev pub before : Candidate → Candidate → Bool
 before c d = is_lt (compared c d)
 
 -- the one of two that comes first
-abbrev pub first_of : Candidate → Candidate → Candidate
-first_of best c = if before c best then c else best
+abbrev pub earlier_of : Candidate → Candidate → Candidate
+earlier_of best c = if before c best then c else best
 
 -- the one that comes first of a candidate and those of a list
 unfoldable pub least : Candidate → List Candidate → Candidate
 least first [] = first
-least first (c ∷ cs) = first_of (least first cs) c
+least first (c ∷ cs) = earlier_of (least first cs) c

@@ -13,14 +13,14 @@ use Rattle.motion_search.specs.Vectors.{whole_at, zero_vector}
 use Rattle.motion_search.specs.Best.{IsWholeCandidate}
 
 -- the best one of some of the candidates, the zero vector among them
-pub record IsSoFar (w : Window) (best : Candidate) : Type 0 where
+pub record IsBestSoFar (w : Window) (best : Candidate) : Type 0 where
   pub zero : before (candidate_of w.block.now (picture w.reference) w.mb 0 zero_vector) best ≡ false
   pub candidate : IsWholeCandidate w.block.now (picture w.reference) w.mb w.radius 0 best
   pub cost : IsCost best.cost
 
 -- what doesn't come before one candidate doesn't come before the next either
-abbrev pub IsKept : Candidate → Candidate → Type 0
-IsKept best next = (d : Candidate) → before d best ≡ false → before d next ≡ false
+abbrev pub IsNoWorse : Candidate → Candidate → Type 0
+IsNoWorse best next = (d : Candidate) → before d best ≡ false → before d next ≡ false
 
 -- the vector in a column and a row of the square is out of reach, or doesn't come before the best one
 abbrev pub IsNoBetter : Window → ℕ → ℕ → Candidate → Type 0

@@ -47,8 +47,8 @@ neighbours v =
     ∷ moved_by v m o ∷ moved_by v p o ∷ moved_by v m p ∷ moved_by v o p ∷ moved_by v p p ∷ []
 
 -- the vector in place k of the nine around a vector, itself among them, by rows from the top
-abbrev pub around : Vector → ℕ → Vector
-around v k = moved_by v (pos (k % 3) -ℤ pos 1) (pos (k / 3) -ℤ pos 1)
+abbrev pub vector_around : Vector → ℕ → Vector
+vector_around v k = moved_by v (pos (k % 3) -ℤ pos 1) (pos (k / 3) -ℤ pos 1)
 
 -- a vector of whole samples
 pub record IsEven (v : Vector) : Type 0 where
@@ -62,6 +62,6 @@ pub record IsWholeSample (radius : ℕ) (v : Vector) : Type 0 where
   pub y : unsigned_abs v.y ≤ 2 * radius
 
 -- w is v, or leads half a sample further or less far, across or down or both
-pub record IsNear (v w : Vector) : Type 0 where
+pub record IsHalfAround (v w : Vector) : Type 0 where
   pub x : unsigned_abs (w.x -ℤ v.x) ≤ 1
   pub y : unsigned_abs (w.y -ℤ v.y) ≤ 1

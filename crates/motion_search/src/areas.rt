@@ -2,7 +2,7 @@
 //! at least as much as the sums of their quarters do.
 ghost use Rattle.std.specs.Prelude.{◌≡◌, ℕ, ◌+◌, ◌%◌, ◌<◌, ◌≤◌, length, replicate, slice_index};
 ghost use Rattle.std.specs.Int.{abs_diff, bit_at};
-ghost use Rattle.motion_search.specs.Areas.{area_sum, AreBytes, AreColumns, AreQuarters, in_block, IsRow, sixteen};
+ghost use Rattle.motion_search.specs.Areas.{area_sum, AreSamplesAt, AreColumns, AreQuarters, sample_of_block, IsRow, sixteen};
 
 use crate::lent::block_row;
 use h263_planes::laws as planes_laws;
@@ -51,7 +51,7 @@ pub(crate) fn with_row(columns: Columns, left: &[u8], right: &[u8]) -> Columns
     requires left { length left.now ≡ 16 }
     requires right { length right.now ≡ 16 }
     ensures { (f : ℕ → ℕ → ℕ) (y n : ℕ)
-        → AreBytes f → n < 8 → IsRow f (y + n) left.now right.now → AreColumns f y n columns
+        → AreSamplesAt f → n < 8 → IsRow f (y + n) left.now right.now → AreColumns f y n columns
         → AreColumns f y (n + 1) result }
 {
     Columns {
@@ -66,7 +66,7 @@ pub(crate) fn without_row(columns: Columns, left: &[u8], right: &[u8]) -> Column
     requires left { length left.now ≡ 16 }
     requires right { length right.now ≡ 16 }
     ensures { (f : ℕ → ℕ → ℕ) (y n : ℕ)
-        → AreBytes f → n < 8 → IsRow f y left.now right.now → AreColumns f y (n + 1) columns
+        → AreSamplesAt f → n < 8 → IsRow f y left.now right.now → AreColumns f y (n + 1) columns
         → AreColumns f (y + 1) n result }
 {
     Columns {
@@ -89,7 +89,7 @@ const ON_BY_EIGHT: [usize; 16] = [8, 9, 10, 11, 12, 13, 14, 15, 16, 17, 18, 19, 
 // `right` go round and mean nothing.
 #[inline(always)]
 pub(crate) fn areas(columns: Columns) -> (u16x16, u16x16)
-    ensures { (f : ℕ → ℕ → ℕ) (y : ℕ) → AreBytes f → AreColumns f y 8 columns
+    ensures { (f : ℕ → ℕ → ℕ) (y : ℕ) → AreSamplesAt f → AreColumns f y 8 columns
         → (result.0 ≡ sixteen (λ i. area_sum f i y)) × (result.1 ≡ sixteen (λ i. area_sum f (8 + i) y)) }
 {
     let (left, right) = (columns.left, columns.right);
@@ -153,7 +153,7 @@ pub(crate) fn marks_of(upper: u16x16, lower: u16x16, limit: u16x16) -> u64
 #[inline(always)]
 fn eight_rows(block: &[u8; 256], j: u32) -> Columns
     requires { j ≤ 8 }
-    ensures { AreColumns (λ x y. in_block block.now (x % 16) y) j 8 result }
+    ensures { AreColumns (λ x y. sample_of_block block.now (x % 16) y) j 8 result }
 {
     planes_laws::are_samples(block);
     let mut columns = no_rows();

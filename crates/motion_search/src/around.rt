@@ -11,7 +11,7 @@ ghost use Rattle.sad_kernel.specs.Differences.{differences};
 ghost use Rattle.motion_search.specs.Cost.{difference_of};
 ghost use Rattle.motion_search.specs.Rows.{rows_from};
 ghost use Rattle.half_sample.specs.Prediction.{ArePredicted};
-ghost use Rattle.motion_search.specs.Vectors.{around, IsEven};
+ghost use Rattle.motion_search.specs.Vectors.{vector_around, IsEven};
 
 use crate::lent::differences_of_four;
 use h263_planes::PictureRef;
@@ -24,7 +24,7 @@ use sad_kernel::laws as sad_kernel_laws;
 pub(crate) fn neighbour(vector: Vector, n: u32) -> Vector
     requires vector { IsVector vector }
     requires n { n < 8 }
-    ensures { result ≡ around vector (n + n / 4) }
+    ensures { result ≡ vector_around vector (n + n / 4) }
 {
     let k = n + n / 4;
     Vector {
@@ -135,10 +135,10 @@ pub(crate) fn differences_around(
     requires vector { IsVector vector }
     requires whole { IsEven vector }
     requires inside { (k : ℕ) → k < 9
-        → InReach (picture reference).format mb (around vector k).x (around vector k).y }
+        → InReach (picture reference).format mb (vector_around vector k).x (vector_around vector k).y }
     requires rounding { rounding ≤ 1 }
     ensures value { (n : ℕ) → n < 8 → slice_index result n ≡ difference_of
-        block.now (picture reference.entry) mb rounding (around vector (n + n / 4)) }
+        block.now (picture reference.entry) mb rounding (vector_around vector (n + n / 4)) }
     ensures most { (n : ℕ) → n < 8 → slice_index result n ≤ 65280 }
 {
     luma_around(reference, mb, neighbour(vector, 0), rounding, rows);

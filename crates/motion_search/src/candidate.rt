@@ -1,6 +1,6 @@
 //! Vectors with their costs, and which of them comes first.
 ghost use Rattle.std.specs.Prelude.{◌≡◌, ◌≤◌, ◌↔◌, pos, ◌-ℤ◌, ◌<ℤ◌, IsTrue};
-ghost use Rattle.motion_search.specs.Order.{length_of, compared, first_of};
+ghost use Rattle.motion_search.specs.Order.{length_of, compared, earlier_of};
 ghost use Rattle.motion_search.specs.Cost.{lead_of, IsCost};
 
 use h263_types::Vector;
@@ -41,7 +41,7 @@ fn is_dearer(one: Candidate, other: Candidate) -> bool
 
 // The one of two candidates that comes first. Mostly the cost alone tells.
 pub(crate) fn first(best: Candidate, other: Candidate) -> Candidate
-    ensures { result ≡ first_of best other }
+    ensures { result ≡ earlier_of best other }
 {
     if is_dearer(other, best) {
         best

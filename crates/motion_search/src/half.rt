@@ -4,9 +4,9 @@ ghost use Rattle.h263_types.specs.Blocks.{IsVector};
 ghost use Rattle.h263_types.specs.Sizes.{mbs_of};
 ghost use Rattle.h263_types.specs.Vectors.{InReach, IsWithin};
 ghost use Rattle.h263_planes.specs.Lent.{picture};
-ghost use Rattle.motion_search.specs.Order.{first_of};
+ghost use Rattle.motion_search.specs.Order.{earlier_of};
 ghost use Rattle.motion_search.specs.Cost.{candidate_of, lead_of, IsCost};
-ghost use Rattle.motion_search.specs.Vectors.{around, in_reach, IsEven};
+ghost use Rattle.motion_search.specs.Vectors.{vector_around, in_reach, IsEven};
 ghost use Rattle.motion_search.specs.Best.{best_near, IsCandidate};
 
 use crate::around::{differences_around, neighbour};
@@ -56,7 +56,7 @@ fn best_inside(
 ) -> Candidate
     requires mb { mb < mbs_of (picture reference).format }
     requires inside { (k : ℕ) → k < 9
-        → InReach (picture reference).format mb (around best.vector k).x (around best.vector k).y }
+        → InReach (picture reference).format mb (vector_around best.vector k).x (vector_around best.vector k).y }
     requires rounding { rounding ≤ 1 }
     requires candidate { IsCandidate block.now (picture reference) mb rounding best }
     requires whole { IsEven best.vector }
@@ -82,9 +82,9 @@ fn better_neighbour(so_far: Candidate, vector: Vector, n: u32, sum: u32) -> Cand
     requires n { n < 8 }
     requires sum { sum ≤ 65280 }
     requires cost { IsCost so_far.cost }
-    ensures first { result ≡ first_of so_far (record {
-      vector = around vector (n + n / 4);
-      cost = pos sum -ℤ pos (lead_of (around vector (n + n / 4)));
+    ensures first { result ≡ earlier_of so_far (record {
+      vector = vector_around vector (n + n / 4);
+      cost = pos sum -ℤ pos (lead_of (vector_around vector (n + n / 4)));
     }) }
     ensures cost { IsCost result.cost }
 {

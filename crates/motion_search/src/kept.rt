@@ -5,7 +5,7 @@ ghost use Rattle.h263_types.specs.Sizes.{height_of, width_of};
 ghost use Rattle.h263_planes.specs.Lent.{picture};
 ghost use Rattle.h263_planes.specs.Samples.{Inside, IsPicture};
 ghost use Rattle.h263_planes.specs.declared.Plane.TheVariants.{Y};
-ghost use Rattle.motion_search.specs.Areas.{area_sum, AreAdded, AreBytes, AreColumns, AreSomeBeside, AreSomeColumns, AreSumsOf, FitIn, IsBeside, LeavesRest};
+ghost use Rattle.motion_search.specs.Areas.{area_sum, AreAdded, AreSamplesAt, AreColumns, AreSomeBeside, AreSomeColumns, AreSumsOf, FitIn, IsBeside, LeavesRest};
 
 use crate::areas::{Columns, areas, no_rows, with_row, without_row};
 use crate::lent::{known, row_from};
@@ -170,7 +170,7 @@ fn with_samples(columns: Columns, reference: PictureRef<'_>, x: u32, z: u32, y: 
     requires left { Inside (picture reference).format Y x y 16 }
     requires right { Inside (picture reference).format Y z y 16 }
     ensures { (f : ℕ → ℕ → ℕ) (top n : ℕ)
-        → AreBytes f → IsBeside (picture reference.entry) x z f → n < 8 → y ≡ top + n
+        → AreSamplesAt f → IsBeside (picture reference.entry) x z f → n < 8 → y ≡ top + n
         → AreColumns f top n columns → AreColumns f top (n + 1) result }
 {
     let left = reference.row(Plane::Y, x, y, 16);
@@ -184,7 +184,7 @@ fn seven_rows(reference: PictureRef<'_>, x: u32, z: u32, y: u32) -> Columns
     requires left { Inside (picture reference).format Y x (y + 6) 16 }
     requires right { Inside (picture reference).format Y z (y + 6) 16 }
     requires y { y < 65536 }
-    ensures { (f : ℕ → ℕ → ℕ) → AreBytes f
+    ensures { (f : ℕ → ℕ → ℕ) → AreSamplesAt f
         → IsBeside (picture reference.entry) x z f → AreColumns f y 7 result }
 {
     let mut columns = no_rows();
@@ -215,7 +215,7 @@ fn put_areas(columns: Columns, out: &mut [u16], at: usize)
     ensures length { length out.new ≡ length out.old }
     ensures others { (k : ℕ) → (k < at) ⊎ (at + 24 ≤ k)
         → slice_index out.new k ≡ slice_index out.old k }
-    ensures stored { (f : ℕ → ℕ → ℕ) (y i : ℕ) → AreBytes f → AreColumns f y 8 columns
+    ensures stored { (f : ℕ → ℕ → ℕ) (y i : ℕ) → AreSamplesAt f → AreColumns f y 8 columns
         → i < 24 → slice_index out.new (at + i) ≡ area_sum f i y }
 {
     let (left, right) = areas(columns);
@@ -234,7 +234,7 @@ fn add_strip(out: &mut [u16], reference: PictureRef<'_>, x: u32, z: u32, rows: A
         × (z + 16 ≤ width_of (picture reference).format) }
     requires whole { length out.old ≡ 14976 }
     ensures rest { LeavesRest rows out.old out.new }
-    ensures stored { (f : ℕ → ℕ → ℕ) → AreBytes f → IsBeside (picture reference.entry) x z f
+    ensures stored { (f : ℕ → ℕ → ℕ) → AreSamplesAt f → IsBeside (picture reference.entry) x z f
         → (k i : ℕ) → rows.begin ≤ k → k < rows.end → i < 24
         → slice_index out.new (384 * k + (x + i)) ≡ area_sum f i (rows.first + k) }
     ensures before { (k c : ℕ)

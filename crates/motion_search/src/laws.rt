@@ -11,7 +11,7 @@ ghost use Rattle.h263_planes.specs.Picture.{Picture};
 ghost use Rattle.motion_search.specs.declared.candidate.Candidate.{Candidate};
 ghost use Rattle.motion_search.specs.Order.{before, compared, least};
 ghost use Rattle.motion_search.specs.Cost.{candidate_of, samples_of};
-ghost use Rattle.motion_search.specs.Vectors.{in_reach, IsNear, IsWholeSample};
+ghost use Rattle.motion_search.specs.Vectors.{in_reach, IsHalfAround, IsWholeSample};
 ghost use Rattle.motion_search.specs.Best.{best_near, best_vector, best_whole, IsCandidate, IsWholeCandidate};
 
 /// The order of candidates is total, and tells any two apart.
@@ -53,10 +53,10 @@ pub fn half_step_is_best()
         → IsCandidate block reference mb rounding (best_near block reference mb rounding from) }
     ensures near { (block : List ℕ) (reference : Picture) (mb rounding : ℕ) (from : Candidate)
         → IsCandidate block reference mb rounding from
-        → IsNear from.vector (best_near block reference mb rounding from).vector }
+        → IsHalfAround from.vector (best_near block reference mb rounding from).vector }
     ensures none_before { (block : List ℕ) (reference : Picture) (mb rounding : ℕ)
         (from : Candidate) (v : Vector) → IsCandidate block reference mb rounding from
-        → IsNear from.vector v → InReach reference.format mb v.x v.y
+        → IsHalfAround from.vector v → InReach reference.format mb v.x v.y
         → IsFalse (before (candidate_of block reference mb rounding v)
         (best_near block reference mb rounding from)) }
 {}

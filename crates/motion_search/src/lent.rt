@@ -6,7 +6,7 @@ ghost use Rattle.h263_planes.specs.Lent.{picture};
 ghost use Rattle.h263_planes.specs.Samples.{Inside};
 ghost use Rattle.h263_planes.specs.declared.Plane.TheVariants.{Y};
 ghost use Rattle.sad_kernel.specs.Differences.{differences};
-ghost use Rattle.motion_search.specs.Order.{before, first_of};
+ghost use Rattle.motion_search.specs.Order.{before, earlier_of};
 ghost use Rattle.motion_search.specs.Cost.{candidate_of, differences_from, IsCost};
 ghost use Rattle.motion_search.specs.Vectors.{zero_vector, IsEven};
 
@@ -127,7 +127,7 @@ pub(crate) fn better_whole(
     requires zero { before (candidate_of window.block.now
         (picture window.reference) window.mb 0 zero_vector) best ≡ false }
     requires cost { IsCost best.cost }
-    ensures first { result ≡ first_of best (candidate_of window.entry.block.now
+    ensures first { result ≡ earlier_of best (candidate_of window.entry.block.now
         (picture window.entry.reference) window.entry.mb 0 vector) }
     ensures cost { IsCost result.cost }
 {

@@ -3,7 +3,7 @@ ghost use Rattle.std.specs.Prelude.{◌≡◌, ◌<◌, ◌≤◌};
 ghost use Rattle.h263_types.specs.Sizes.{mbs_of};
 ghost use Rattle.h263_types.specs.Vectors.{InReach};
 ghost use Rattle.h263_planes.specs.Lent.{picture};
-ghost use Rattle.motion_search.specs.Order.{first_of};
+ghost use Rattle.motion_search.specs.Order.{earlier_of};
 ghost use Rattle.motion_search.specs.Cost.{candidate_of, IsCost};
 
 use crate::around::differences_of_one;
@@ -25,7 +25,7 @@ pub(crate) fn better_predicted(
     requires rounding { rounding ≤ 1 }
     requires cost { IsCost best.cost }
     ensures first { result
-        ≡ first_of best (candidate_of block.now (picture reference.entry) mb rounding vector) }
+        ≡ earlier_of best (candidate_of block.now (picture reference.entry) mb rounding vector) }
     ensures cost { IsCost result.cost }
 {
     let sum = differences_of_one(block, reference, mb, rounding, vector);

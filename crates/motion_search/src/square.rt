@@ -2,7 +2,7 @@
 ghost use Rattle.std.specs.Prelude.{◌≡◌, ℕ, ◌+◌, ◌*◌, ◌<◌, ◌≤◌, ◌↔◌, pos, ◌≤ℤ◌, false, if◌then◌else◌};
 ghost use Rattle.h263_types.specs.Vectors.{whole_place};
 ghost use Rattle.h263_planes.specs.Lent.{picture};
-ghost use Rattle.motion_search.specs.Order.{before, first_of};
+ghost use Rattle.motion_search.specs.Order.{before, earlier_of};
 ghost use Rattle.motion_search.specs.Cost.{candidate_of, IsCost};
 ghost use Rattle.motion_search.specs.Vectors.{in_reach, whole_at, whole_component, zero_vector};
 
@@ -131,7 +131,7 @@ pub(crate) fn better_at(window: Window<'_>, column: u32, row: u32, best: Candida
     requires cost { IsCost best.cost }
     ensures first { result ≡ (if in_reach (picture window.entry.reference).format window.entry.mb
         (whole_at window.entry.radius column row)
-        then first_of best (candidate_of window.entry.block.now (picture window.entry.reference)
+        then earlier_of best (candidate_of window.entry.block.now (picture window.entry.reference)
         window.entry.mb 0 (whole_at window.entry.radius column row)) else best) }
     ensures cost { IsCost result.cost }
 {

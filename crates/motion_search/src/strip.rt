@@ -7,7 +7,7 @@ ghost use Rattle.h263_planes.specs.Lent.{picture};
 ghost use Rattle.sad_kernel.specs.Differences.{differences};
 ghost use Rattle.motion_search.specs.Cost.{square, IsCost};
 ghost use Rattle.motion_search.specs.Vectors.{whole_component};
-ghost use Rattle.motion_search.specs.SoFar.{HasLimit, HoldsAround, IsNoBetter, IsKept, IsSoFar};
+ghost use Rattle.motion_search.specs.SoFar.{HasLimit, HoldsAround, IsNoBetter, IsNoWorse, IsBestSoFar};
 ghost use Rattle.motion_search.specs.Areas.{AreQuarters, AreSumsOf, samples_from};
 
 use crate::areas::{Quarters, half_away, marks_of};
@@ -94,9 +94,9 @@ fn better_in_row(window: Window<'_>, column: u32, row: u32, best: Candidate) -> 
     requires down { (window.reach.up ≤ℤ whole_component window.radius row)
         × (whole_component window.radius row ≤ℤ window.reach.down) }
     requires left { window.reach.left ≤ℤ whole_component window.radius column }
-    requires so_far { IsSoFar window best }
-    ensures so_far { IsSoFar window.entry result }
-    ensures kept { IsKept best result }
+    requires so_far { IsBestSoFar window best }
+    ensures so_far { IsBestSoFar window.entry result }
+    ensures kept { IsNoWorse best result }
     ensures none { column < 2 * window.entry.radius + 1
         → IsNoBetter window.entry column row result }
 {
@@ -127,11 +127,11 @@ fn best_of_marked(
     requires down { (window.reach.up ≤ℤ whole_component window.radius row)
         × (whole_component window.radius row ≤ℤ window.reach.down) }
     requires left { window.reach.left ≤ℤ whole_component window.radius column }
-    requires so_far { IsSoFar window best }
+    requires so_far { IsBestSoFar window best }
     requires others { (i : ℕ)
         → i < 16 → bit_at marks i ≡ 0 → IsNoBetter window (column + i) row best }
-    ensures so_far { IsSoFar window.entry result }
-    ensures kept { IsKept best result }
+    ensures so_far { IsBestSoFar window.entry result }
+    ensures kept { IsNoWorse best result }
     ensures none { (i : ℕ) → i < 16 → column + i < 2 * window.entry.radius + 1
         → IsNoBetter window.entry (column + i) row result }
 {
@@ -161,9 +161,9 @@ pub(crate) fn best_of_strip(
     requires quarters { AreQuarters window.block.now quarters }
     requires sums { AreSumsOf (picture window.reference) sums.now }
     requires held { HoldsAround window sums.now }
-    requires so_far { IsSoFar window best }
-    ensures so_far { IsSoFar window.entry result }
-    ensures kept { IsKept best result }
+    requires so_far { IsBestSoFar window best }
+    ensures so_far { IsBestSoFar window.entry result }
+    ensures kept { IsNoWorse best result }
     ensures none { (m i : ℕ) → m < 2 * window.entry.radius + 1 → i < 16
         → column + i < 2 * window.entry.radius + 1 → IsNoBetter window.entry (column + i) m result }
 {

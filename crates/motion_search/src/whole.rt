@@ -5,7 +5,7 @@ ghost use Rattle.h263_planes.specs.Lent.{picture};
 ghost use Rattle.motion_search.specs.Cost.{candidate_of, IsCost};
 ghost use Rattle.motion_search.specs.Vectors.{zero_vector};
 ghost use Rattle.motion_search.specs.Best.{best_whole};
-ghost use Rattle.motion_search.specs.SoFar.{HoldsAround, IsNoBetter, IsSoFar};
+ghost use Rattle.motion_search.specs.SoFar.{HoldsAround, IsNoBetter, IsBestSoFar};
 ghost use Rattle.motion_search.specs.Areas.{AreQuarters, AreSumsOf};
 
 use crate::areas::{Quarters, quarters_of};
@@ -77,8 +77,8 @@ fn best_of_strips(
     requires quarters { AreQuarters window.block.now quarters }
     requires sums { AreSumsOf (picture window.reference) sums.now }
     requires held { HoldsAround window sums.now }
-    requires so_far { IsSoFar window best }
-    ensures so_far { IsSoFar window.entry result }
+    requires so_far { IsBestSoFar window best }
+    ensures so_far { IsBestSoFar window.entry result }
     ensures none { (m n : ℕ) → m < 2 * window.entry.radius + 1
         → n < 2 * window.entry.radius + 1 → IsNoBetter window.entry n m result }
 {

@@ -5,7 +5,7 @@ use Rattle.std.specs.Option.{option_map_or}
 use Rattle.call_model.specs.Coding.{Rules, Coding, pictures_of}
 use Rattle.call_model.specs.CodedPictures.{Coded}
 use Rattle.call_model.specs.IdealCall.{Event, Send, Deliver, Play, Back}
-use Rattle.call_model.specs.Sending.{SenderRun, next_coded, packets_of}
+use Rattle.call_model.specs.Sending.{SenderRun, next_coded, packets_at}
 use Rattle.call_model.specs.Receiving.{ReceiverRun}
 use Rattle.call_model.specs.JoinedRun.{AllMayHappenBoth, Joined, SaidMessage, after_bytes, joined, sender_with_frame, sender_with_message}
 use Rattle.one_way.specs.Trace.{delivered}
@@ -39,20 +39,20 @@ module _ {Frame Style Mb Picture Fault MessageFault : Type 0}
   sender_delivered n zero past = refl
   sender_delivered n (suc j) past =
       let w = both (delivered n j ++ past) in
-      sender_after w n (slice_get (packets_of coding.encoding rules w.sender.coded n) j) ∙ sender_delivered n j past
+      sender_after w n (slice_get (packets_at coding.encoding rules w.sender.coded n) j) ∙ sender_delivered n j past
 
   pub plays_delivered : (n count : ℕ) (past : List Event) → (both (delivered n count ++ past)).plays ≡ (both past).plays
   plays_delivered n zero past = refl
   plays_delivered n (suc j) past =
       let w = both (delivered n j ++ past) in
-      plays_after w n (slice_get (packets_of coding.encoding rules w.sender.coded n) j) ∙ plays_delivered n j past
+      plays_after w n (slice_get (packets_at coding.encoding rules w.sender.coded n) j) ∙ plays_delivered n j past
 
   pub played_delivered : (n count : ℕ) (past : List Event) → (both (delivered n count ++ past)).receiver.played
       ≡ (both past).receiver.played
   played_delivered n zero past = refl
   played_delivered n (suc j) past =
       let w = both (delivered n j ++ past) in
-      played_after w n (slice_get (packets_of coding.encoding rules w.sender.coded n) j) ∙ played_delivered n j past
+      played_after w n (slice_get (packets_at coding.encoding rules w.sender.coded n) j) ∙ played_delivered n j past
 
   -- and they are near where the first of them is
   pub near_delivered : (n count : ℕ) (past : List Event) → n < length (both past).sender.coded
@@ -102,7 +102,7 @@ module _ {Frame Style Mb Picture Fault MessageFault : Type 0}
   counts_near none (Deliver n j ∷ past) near =
       let before = counts_near none past near.1 in
       let w = both past in
-      let o = slice_get (packets_of coding.encoding rules w.sender.coded n) j in
+      let o = slice_get (packets_at coding.encoding rules w.sender.coded n) j in
       let coded = ap (λ (run : SenderRun Style Mb Picture). length run.coded) (sender_after w n o) in
       let played = played_after w n o in
       (omega (arith, before.0, coded, played), omega (arith, before.1, coded, played))

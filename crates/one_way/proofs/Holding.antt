@@ -19,7 +19,7 @@ use Rattle.call_decoding.specs.Styles.{Style}
 use Rattle.call_encoding.specs.Encoding.{encoding}
 use Rattle.call_encoding.specs.Frames.{Frame}
 use Rattle.coded_call.specs.Coding.{coding}
-use Rattle.receiver_end.specs.Answers.{mark_of}
+use Rattle.receiver_end.specs.Answers.{mark_from}
 use Rattle.receiver_end.specs.Decoding.{decoding}
 use Rattle.receiver_end.specs.State as receiver_end
 use Rattle.receiver_end.specs.declared.kept.Kept.{Kept}
@@ -28,7 +28,7 @@ use Rattle.one_way.specs.declared.references.References.{References}
 use Rattle.one_way.specs.declared.tally.Tally.{Tally}
 use Rattle.one_way.specs.declared.way.Way.{Way}
 use Rattle.one_way.specs.Both.{AreJoined, both_after, next_of, steady}
-use Rattle.one_way.specs.Counts.{AreCounted, counted}
+use Rattle.one_way.specs.Counts.{AreCounted, tally_counted}
 use Rattle.one_way.specs.References.{AreNoted}
 use Rattle.one_way.specs.Network.{HasPackets, HasReferences}
 use Rattle.one_way.specs.Way.{HoldsWay, MayHappenNow}
@@ -54,7 +54,7 @@ module _ (p : Params) (way : Way) (sender : State) (receiver : Kept) (before : L
       → HoldsWay p way sender new before frames (Deliver n j ∷ past)
   holds_packet new n j near joined =
       let w = both past in
-      let o = slice_get (call.packets_of (encoding p) (rules_of p) w.sender.coded n) j in
+      let o = slice_get (call.packets_at (encoding p) (rules_of p) w.sender.coded n) j in
       let begun = receiver_end.run_of p before in
       let sender_same = sender_after (coding p) (rules_of p) begun (steady p) frames w n o in
       record {
@@ -71,8 +71,8 @@ module _ (p : Params) (way : Way) (sender : State) (receiver : Kept) (before : L
   -- the next picture is played
   pub holds_play : (new : Kept) (tally : Tally) (mark : Mark) → MayHappenNow p before frames past Play
       → AreJoined p (steady p) sender new frames before (Play ∷ past)
-      → tally ≡ counted mark way.tally
-      → mark ≡ mark_of (played_mark (decoding p.format) (rules_of p) (both past).receiver)
+      → tally ≡ tally_counted mark way.tally
+      → mark ≡ mark_from (played_mark (decoding p.format) (rules_of p) (both past).receiver)
       → HoldsWay p (record way { tally = tally }) sender new before frames (Play ∷ past)
   holds_play new tally mark near joined tallied marked = record {
     joined = joined;
@@ -107,7 +107,7 @@ module _ (p : Params) (way : Way) (sender : State) (receiver : Kept) (before : L
       → (new : State) (f : Frame) (packets : SentPackets) (references : References)
       → MayHappenNow p before frames past Send → slice_get frames (length (both past).sender.coded) ≡ Some f
       → AreJoined p (steady p) new receiver frames before (Send ∷ past)
-      → ((pictures : ring.Pictures) → ring.HoldsPackets way.packets pictures
+      → ((pictures : ring.PacketsOfPictures) → ring.HoldsPackets way.packets pictures
       → ring.HoldsPackets packets (pictures ++ new.packets ∷ []))
       → ((list : List (Option ℕ)) → AreNoted way.references list → length (both past).sender.coded ≡ length list
       → AreNoted references (list ++ (next_of p (steady p) f (both past)).reference ∷ []))
@@ -120,9 +120,9 @@ module _ (p : Params) (way : Way) (sender : State) (receiver : Kept) (before : L
       let coded_is : (both (Send ∷ past)).sender.coded ≡ coded ++ next ∷ [] = coded_sent (coding p) (rules_of p)
       (steady p) frames (receiver_end.run_of p before) past f at in
       let number : new.sent - 1 ≡ length coded = omega (arith, one_more, sent) in
-      let cut : new.packets ≡ call.packets_of (encoding p) (rules_of p) (coded ++ next ∷ []) (length coded) =
+      let cut : new.packets ≡ call.packets_at (encoding p) (rules_of p) (coded ++ next ∷ []) (length coded) =
       packets_are p runs (steady p) new receiver frames before (Send ∷ past) joined
-      ∙ (λ i. call.packets_of (encoding p) (rules_of p) (coded_is i) (number i))
+      ∙ (λ i. call.packets_at (encoding p) (rules_of p) (coded_is i) (number i))
       in
       let references_of = λ (x : Coded Style Mb Picture). x.reference in
       let noted : AreNoted references (map references_of (coded ++ next ∷ [])) =

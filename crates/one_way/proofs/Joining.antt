@@ -5,7 +5,7 @@ use Rattle.std.specs.Option.{option_map_or}
 use Rattle.call_model.specs.Coding.{Rules, Coding, pictures_of}
 use Rattle.call_model.specs.CodedPictures.{Coded}
 use Rattle.call_model.specs.IdealCall.{Event, Send, Deliver}
-use Rattle.call_model.specs.Sending.{SenderEntry, Capture, next_coded, packets_of, after_capture}
+use Rattle.call_model.specs.Sending.{SenderEntry, Capture, next_coded, packets_at, after_capture}
 use Rattle.call_model.specs.Receiving.{ReceiverRun, ReceiverEntry, Packet}
 use Rattle.call_model.specs.JoinedRun.{Joined, joined, sender_entries, receiver_entries}
 
@@ -36,7 +36,7 @@ module _ {Frame Style Mb Picture Fault MessageFault : Type 0}
         (both past).sender) o (both past).sender).coded) at
 
     pub entries_delivered : (n j : ℕ) (bytes : List ℕ)
-        → slice_get (packets_of coding.encoding rules (both past).sender.coded n) j ≡ Some bytes
+        → slice_get (packets_at coding.encoding rules (both past).sender.coded n) j ≡ Some bytes
         → receiver_entries coding rules begun pace frames (Deliver n j ∷ past)
         ≡ Packet bytes ∷ receiver_entries coding rules begun pace frames past
     entries_delivered n j bytes at =

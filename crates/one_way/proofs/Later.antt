@@ -78,7 +78,7 @@ module _ (p : Params) (law : LaterFramesBoth (coded.coding p) (rules_of p)) (way
         joined = record {
           sender_params = h.joined.sender_params;
           receiver_params = h.joined.receiver_params;
-          sends = subst (λ (l : List (SenderEntry videos.Frame)). sender_end.Stands (steady p) sender l)
+          sends = subst (λ (l : List (SenderEntry videos.Frame)). sender_end.PacedStands (steady p) sender l)
               (sym (sent_same (coded.coding p) (rules_of p) law begun (steady p) frames later past h.near))
               h.joined.sends;
           receives = subst (λ (l : List ReceiverEntry). receiver_end.Stands receiver (l ++ before))

@@ -49,7 +49,7 @@ module _ (p : Params) (runs : EachEndRuns (coding p) (rules_of p)) (pace : List 
   abbrev both : Joined Style Mb Picture
   both = both_after p pace frames before past
 
-  sender_is : both.sender ≡ sender_end.run_of p pace sent_so
+  sender_is : both.sender ≡ sender_end.entries_run p pace sent_so
   sender_is = (runs before pace frames past).0
 
   receiver_is : both.receiver ≡ receiver_end.run_of p heard_so
@@ -60,7 +60,7 @@ module _ (p : Params) (runs : EachEndRuns (coding p) (rules_of p)) (pace : List 
   sent_is =
       sym j.sends.seen.sent
       ∙ j.sends.stands.sent
-      ∙ ap (λ (q : Params). length (sender_end.run_of q pace sent_so).coded) j.sender_params
+      ∙ ap (λ (q : Params). length (sender_end.entries_run q pace sent_so).coded) j.sender_params
       ∙ ap (λ (run : SenderRun Style Mb Picture). length run.coded) (sym sender_is)
 
   -- and the receiver has played what was played
@@ -71,42 +71,43 @@ module _ (p : Params) (runs : EachEndRuns (coding p) (rules_of p)) (pace : List 
       ∙ ap (λ (run : ReceiverRun Style Mb Picture). run.played) (sym receiver_is)
 
   -- the sender has the packets of its last picture
-  pub packets_are : sender.packets ≡ call.packets_of (encoding p) (rules_of p) both.sender.coded (sender.sent - 1)
+  pub packets_are : sender.packets ≡ call.packets_at (encoding p) (rules_of p) both.sender.coded (sender.sent - 1)
   packets_are =
       sym j.sends.seen.packets
       ∙ j.sends.stands.packets
       ∙ ap (λ (q : Params). sender_end.last_packets q pace sent_so) j.sender_params
-      ∙ ap (λ (run : SenderRun Style Mb Picture). call.packets_of (encoding p) (rules_of p) run.coded
+      ∙ ap (λ (run : SenderRun Style Mb Picture). call.packets_at (encoding p) (rules_of p) run.coded
       (length run.coded - 1)) (sym sender_is)
-      ∙ ap (λ (k : ℕ). call.packets_of (encoding p) (rules_of p) both.sender.coded (k - 1)) (sym sent_is)
+      ∙ ap (λ (k : ℕ). call.packets_at (encoding p) (rules_of p) both.sender.coded (k - 1)) (sym sent_is)
 
   -- ---- a picture is sent
 
   pub after_send : (new : State) (f : Frame) → new.params ≡ sender.params → slice_get frames sender.sent ≡ Some f
-      → sender_end.Stands pace new (Capture f ∷ sent_so) → AreJoined p pace new receiver frames before (Send ∷ past)
+      → sender_end.PacedStands pace new (Capture f ∷ sent_so)
+      → AreJoined p pace new receiver frames before (Send ∷ past)
   after_send new f same at stands = record {
     sender_params = same ∙ j.sender_params;
     receiver_params = j.receiver_params;
-    sends = subst (λ (l : List (SenderEntry Frame)). sender_end.Stands pace new l)
+    sends = subst (λ (l : List (SenderEntry Frame)). sender_end.PacedStands pace new l)
         (sym (entries_sent (coding p) (rules_of p) pace frames (receiver_end.run_of p before) past f
         (ap (λ (k : ℕ). slice_get frames k) (sym sent_is) ∙ at))) stands;
     receives = j.receives;
   }
 
   pub send_tells : (f : Frame) (answer : Coded)
-      → sender_end.Describes (length (sender_end.run_of sender.params pace sent_so).coded)
+      → sender_end.Describes (length (sender_end.entries_run sender.params pace sent_so).coded)
       (sender_end.next_after sender.params pace f sent_so) answer
       → sender_end.Describes (length both.sender.coded) (next_of p pace f both) answer
   send_tells f answer tells =
       subst (λ (run : SenderRun Style Mb Picture). sender_end.Describes (length run.coded)
       (next_coded (pictures p.format) (encoding p) (rules_of p) pace f run.coded run.known) answer) (sym sender_is)
-      (subst (λ (q : Params). sender_end.Describes (length (sender_end.run_of q pace sent_so).coded)
+      (subst (λ (q : Params). sender_end.Describes (length (sender_end.entries_run q pace sent_so).coded)
       (sender_end.next_after q pace f sent_so) answer) j.sender_params tells)
 
   -- ---- a packet is delivered
 
   pub after_packet : (new : Kept) (n place : ℕ) (bytes : List ℕ) → new.params ≡ receiver.params
-      → slice_get (call.packets_of (encoding p) (rules_of p) both.sender.coded n) place ≡ Some bytes
+      → slice_get (call.packets_at (encoding p) (rules_of p) both.sender.coded n) place ≡ Some bytes
       → receiver_end.Stands new (Packet bytes ∷ heard_so)
       → AreJoined p pace sender new frames before (Deliver n place ∷ past)
   after_packet new n place bytes same at stands = record {
@@ -160,20 +161,20 @@ module _ (p : Params) (runs : EachEndRuns (coding p) (rules_of p)) (pace : List 
 
   pub after_message : (new : State) (k : ℕ) (told : SaidMessage) → new.params ≡ sender.params
       → slice_get both.said k ≡ Some told
-      → sender_end.Stands pace new (Feedback told.bytes ∷ sent_so)
+      → sender_end.PacedStands pace new (Feedback told.bytes ∷ sent_so)
       → AreJoined p pace new receiver frames before (Back k ∷ past)
   after_message new k told same at stands = record {
     sender_params = same ∙ j.sender_params;
     receiver_params = j.receiver_params;
     sends = subst (λ (o : Option SaidMessage). let first : List (SenderEntry Frame) =
         option_map_or (λ (told : SaidMessage). Feedback told.bytes ∷ []) o [] in
-        sender_end.Stands pace new (first ++ sent_so)) (sym at) stands;
+        sender_end.PacedStands pace new (first ++ sent_so)) (sym at) stands;
     receives = j.receives;
   }
 
   -- ---- no packet is there
 
-  pub after_none : (n place : ℕ) → slice_get (call.packets_of (encoding p) (rules_of p) both.sender.coded n) place
+  pub after_none : (n place : ℕ) → slice_get (call.packets_at (encoding p) (rules_of p) both.sender.coded n) place
       ≡ None
       → AreJoined p pace sender receiver frames before (Deliver n place ∷ past)
   after_none n place none = record {

@@ -29,12 +29,12 @@ use Rattle.call_decoding.specs.Rules.{rules_of}
 use Rattle.call_decoding.specs.Samples.{pictures}
 use Rattle.call_decoding.specs.Styles.{Style, header_from}
 use Rattle.call_encoding.specs.Encoding.{encoding}
-use Rattle.call_encoding.specs.Frames.{Frame, in_format, header_in, kind_of, style_with}
-use Rattle.call_rings.specs.Parts.{size_of}
+use Rattle.call_encoding.specs.Frames.{Frame, in_format, styled_header, kind_of, style_with}
+use Rattle.call_rings.specs.Parts.{total_size}
 
 -- what these packets take of a ring: at most the room of a picture
 pub record Room (p : Params) (packets : List (List ℕ)) : Type 0 where
-  pub bytes : size_of packets ≤ 1200 * mbs_of p.format
+  pub bytes : total_size packets ≤ 1200 * mbs_of p.format
   pub count : length packets ≤ mbs_of p.format
 
 -- what the crates below say of choice, cut and packets
@@ -57,7 +57,7 @@ pub record Below (p : Params) : Type 0 where
       → ArePacketsOf number sequence h p.limit mbs (packets_of number sequence h (cut_of h p.limit mbs))
   pub bytes : (number sequence : ℕ) (h : picture.Header) (mbs : List Mb) (packets : List (List ℕ)) → IsHeader h
       → All HasWholeBlocks mbs
-      → ArePacketsOf number sequence h p.limit mbs packets → size_of packets ≤ 1200 * length mbs
+      → ArePacketsOf number sequence h p.limit mbs packets → total_size packets ≤ 1200 * length mbs
   pub count : (number sequence : ℕ) (h : picture.Header) (mbs : List Mb) (packets : List (List ℕ)) → IsHeader h
       → All HasWholeBlocks mbs
       → ArePacketsOf number sequence h p.limit mbs packets → length packets ≤ length mbs
@@ -116,7 +116,7 @@ module _ (p : Params) (below : Below p) where
       → Room p ((encoding p).packets n sequence h ((encoding p).cut h.style ((encoding p).choice frame before h.style)))
   chosen_room frame predicted depth quant before h n sequence ranged style fit =
       let picture = in_format p.format frame.picture in
-      let g = header_in p.clock h.style in
+      let g = styled_header p.clock h.style in
       let mbs = choices_of picture before g p in
       let kind : h.style.kind ≡ kind_of predicted = ap (λ (s : Style). s.kind) style in
       let many : length mbs ≡ mbs_of p.format = below.chosen_count picture before g in
@@ -157,7 +157,7 @@ module _ (p : Params) (below : Below p) where
   few_sizes : (coded : List (Coded Style Mb Picture)) → length (call.last_sizes (encoding p) (rules_of p) coded) ≤ 16
   few_sizes coded =
       let count : length (call.last_sizes (encoding p) (rules_of p) coded) ≡ length coded - (length coded - 16) =
-      length-map-range_with_len (λ n. call.bytes_in (call.packets_of (encoding p) (rules_of p) coded n))
+      length-map-range_with_len (λ n. call.bytes_together (call.packets_at (encoding p) (rules_of p) coded n))
       (length coded - 16) (length coded - (length coded - 16))
       in
       omega (arith, count)
@@ -187,9 +187,9 @@ module _ (p : Params) (below : Below p) where
       }))
 
   pub packets_room : (pace : List ℕ → ℕ) (entries : List (SenderEntry Frame)) (n : ℕ) → IsPace pace
-      → Room p (call.packets_of (encoding p) (rules_of p) (sender_run (pictures p.format) (encoding p)
+      → Room p (call.packets_at (encoding p) (rules_of p) (sender_run (pictures p.format) (encoding p)
       (rules_of p) pace entries).coded n)
-  unfolding call.packets_of
+  unfolding call.packets_at
   packets_room pace entries n paced =
       let coded = (sender_run (pictures p.format) (encoding p) (rules_of p) pace entries).coded in
       by_slot n (packets_before (take n coded)) (slice_get coded n) (all_captured pace entries paced n)

@@ -11,9 +11,9 @@ use Rattle.h263_planes.specs.Picture.{Picture}
 use Rattle.call_model.specs.Coding.{Shown, Exact, Patched, Held}
 use Rattle.call_model.specs.Coding as model
 use Rattle.call_model.specs.Lawful.{IsPace}
-use Rattle.receiver_end.specs.Answers.{mark_of}
+use Rattle.receiver_end.specs.Answers.{mark_from}
 use Rattle.one_way.specs.declared.tally.Tally.{Tally}
-use Rattle.one_way.specs.Counts.{AreCounted, counted, one_exact, one_patched, one_held}
+use Rattle.one_way.specs.Counts.{AreCounted, tally_counted, one_exact, one_patched, one_held}
 use Rattle.one_way.specs.Both.{steady}
 
 -- half a period is 512 at most
@@ -26,10 +26,10 @@ steady_is p in_range sizes few = (omega (arith, in_range.quant_low), omega (arit
 
 -- ---- one play more is counted
 
-one_more : (mark : Mark) (by : model.Mark) (tally : Tally) → mark ≡ mark_of by
-    → ((counted mark tally).exact ≡ tally.exact + one_exact by)
-    × ((counted mark tally).patched ≡ tally.patched + one_patched by)
-    × ((counted mark tally).held ≡ tally.held + one_held by)
+one_more : (mark : Mark) (by : model.Mark) (tally : Tally) → mark ≡ mark_from by
+    → ((tally_counted mark tally).exact ≡ tally.exact + one_exact by)
+    × ((tally_counted mark tally).patched ≡ tally.patched + one_patched by)
+    × ((tally_counted mark tally).held ≡ tally.held + one_held by)
 one_more marks.Exact Exact tally is = (refl, omega arith, omega arith)
 one_more marks.Patched Patched tally is = (omega arith, refl, omega arith)
 one_more marks.Held Held tally is = (omega arith, omega arith, refl)
@@ -41,8 +41,8 @@ one_more marks.Held Exact tally is = absurd cc
 one_more marks.Held Patched tally is = absurd cc
 
 pub count_more : (mark : Mark) (tally : Tally) (shown : Shown Picture) (plays : List (Shown Picture))
-    → mark ≡ mark_of shown.mark
-    → AreCounted tally plays → AreCounted (counted mark tally) (shown ∷ plays)
+    → mark ≡ mark_from shown.mark
+    → AreCounted tally plays → AreCounted (tally_counted mark tally) (shown ∷ plays)
 count_more mark tally shown plays is counts =
     let more = one_more mark shown.mark tally is in
     record {

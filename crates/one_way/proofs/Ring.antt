@@ -15,7 +15,7 @@ use Rattle.call_model.specs.Sending as call
 use Rattle.call_decoding.specs.Rules.{rules_of}
 use Rattle.call_decoding.specs.Styles.{Style}
 use Rattle.call_encoding.specs.Encoding.{encoding}
-use Rattle.call_rings.specs.Keeping.{kept_of, period_of}
+use Rattle.call_rings.specs.Keeping.{kept_of, ring_period}
 use Rattle.call_rings.specs.declared.sent_packets.SentPackets.{SentPackets}
 use Rattle.one_way.specs.declared.way.Way.{Way}
 use Rattle.one_way.specs.Network.{HasPackets, about_of, told_in}
@@ -24,26 +24,26 @@ use Rattle.one_way.specs.Way.{IsAmongLast, kept_in}
 -- the packets that the ring has of one of the last pictures
 pub kept_in_ring : (p : Params) (ring : SentPackets) (coded : List (Coded Style Mb Picture)) (n : ℕ)
     (has : HasPackets p ring coded)
-    → n < length coded → length coded ≤ n + period_of ring → kept_of (period_of ring) has.pictures n
-    ≡ call.packets_of (encoding p) (rules_of p) coded n
+    → n < length coded → length coded ≤ n + ring_period ring → kept_of (ring_period ring) has.pictures n
+    ≡ call.packets_at (encoding p) (rules_of p) coded n
 kept_in_ring p ring coded n has few near =
     ap (λ (b : Bool). if b then slice_index_or has.pictures n [] else [])
-    (and_from (nat_lt n (length has.pictures)) (nat_le (length has.pictures) (n + period_of ring))
+    (and_from (nat_lt n (length has.pictures)) (nat_le (length has.pictures) (n + ring_period ring))
     (lt-ltb n (length has.pictures) (omega (arith, few, has.count)))
-    (le-leb (length has.pictures) (n + period_of ring) (omega (arith, near, has.count))))
+    (le-leb (length has.pictures) (n + ring_period ring) (omega (arith, near, has.count))))
     ∙ has.each n
 
 pub kept_is : (p : Params) (way : Way) (coded : List (Coded Style Mb Picture)) (n : ℕ)
     (has : HasPackets p way.packets coded) → IsAmongLast way (length coded) n
-    → kept_of (kept_in way) has.pictures n ≡ call.packets_of (encoding p) (rules_of p) coded n
+    → kept_of (kept_in way) has.pictures n ≡ call.packets_at (encoding p) (rules_of p) coded n
 kept_is p way coded n has among = kept_in_ring p way.packets coded n has among.0 among.1
 
 -- a picture has as many packets as slices
 pub count_is : (p : Params) (coded : List (Coded Style Mb Picture)) (n : ℕ)
     → ((number sequence : ℕ) (h : Header Style) (slices : List (Slice Mb))
     → length ((encoding p).packets number sequence h slices) ≡ length slices)
-    → length (call.packets_of (encoding p) (rules_of p) coded n) ≡ length (slices_at coded n)
-unfolding call.packets_of slices_at
+    → length (call.packets_at (encoding p) (rules_of p) coded n) ≡ length (slices_at coded n)
+unfolding call.packets_at slices_at
 count_is p coded n count = by_slot (slice_get coded n)
   where
     by_slot : (o : Option (Coded Style Mb Picture))

@@ -3,21 +3,21 @@ use Rattle.std.proofs.Common.{◌≡◌, ℕ, List, [], ◌∷◌, Option, Some,
 use Rattle.std.specs.Option.{option_map_or}
 use Rattle.h263_bits.specs.declared.fault.Fault.{Fault}
 use Rattle.h263_types.specs.declared.clock.Clock.{Clock}
-use Rattle.back_messages.specs.Said.{text_of}
+use Rattle.back_messages.specs.Said.{text_of_said}
 use Rattle.back_messages.specs.declared.writing.Said.{Said}
 use Rattle.call_model.specs.Coding.{Message}
 use Rattle.call_model.specs.JoinedRun.{SaidMessage, said_to}
 use Rattle.call_model.specs.Receiving as runs
 use Rattle.call_encoding.specs.Messages.{write_message}
 use Rattle.coded_call.specs.Bytes.{AreBytes}
-use Rattle.receiver_end.specs.Answers.{IsMessage, IsSaid, said_by}
+use Rattle.receiver_end.specs.Answers.{SaysMessage, IsSaid, said_by}
 use Rattle.one_way.specs.Network.{told_by}
 
 -- the bytes that are said of a message are those that are written of it
 abbrev pub SaysBytes : Type 0
 SaysBytes =
-    (clock : Clock) (said : Said) (message : Message) → AreBytes (text_of said) → IsSaid clock said message
-    → text_of said ≡ write_message message
+    (clock : Clock) (said : Said) (message : Message) → AreBytes (text_of_said said) → IsSaid clock said message
+    → text_of_said said ≡ write_message message
 
 -- what is told of picture n
 abbrev pub told_of : ℕ → Option Message → List SaidMessage
@@ -44,10 +44,11 @@ heard_told n runs.Taken = refl
 
 -- what is told by a message that was said is what is told of its meaning
 pub told_is : SaysBytes → (clock : Clock) (n : ℕ) (o : Option Said) (message : Option Message)
-    → IsMessage clock o message → IfSome o (λ said. AreBytes (text_of said)) → told_by n o ≡ told_of n message
+    → SaysMessage clock o message → IfSome o (λ said. AreBytes (text_of_said said)) → told_by n o ≡ told_of n message
 told_is law clock n o None none fit = ap (told_by n) none
 told_is law clock n o (Some message) m fit =
-    let bytes : AreBytes (text_of m.0) = subst (λ (o : Option Said). IfSome o (λ said. AreBytes (text_of said))) m.1 fit
+    let bytes : AreBytes (text_of_said m.0) =
+    subst (λ (o : Option Said). IfSome o (λ said. AreBytes (text_of_said said))) m.1 fit
     in
     ap (told_by n) m.1 ∙ ap (λ (bytes : List ℕ). let told : SaidMessage = record { about = n; bytes = bytes } in
     told ∷ []) (law clock m.0 message bytes m.2)

@@ -12,7 +12,7 @@ use Rattle.call_decoding.specs.Rules.{rules_of}
 use Rattle.call_decoding.specs.Styles.{Style}
 use Rattle.call_encoding.specs.Encoding.{encoding}
 use Rattle.call_rings.specs.declared.sent_packets.SentPackets.{SentPackets}
-use Rattle.call_rings.specs.Keeping.{HoldsPackets, Pictures}
+use Rattle.call_rings.specs.Keeping.{HoldsPackets, PacketsOfPictures}
 use Rattle.one_way.specs.Network.{HasPackets}
 use Rattle.one_way.specs.Seen.{reference_in}
 
@@ -60,19 +60,19 @@ map_more f (y ∷ xs) x = ap (λ l. f y ∷ l) (map_more f xs x)
 
 module _ (p : Params) where
   abbrev packets_of : List (Coded Style Mb Picture) → ℕ → List (List ℕ)
-  packets_of coded n = call.packets_of (encoding p) (rules_of p) coded n
+  packets_of coded n = call.packets_at (encoding p) (rules_of p) coded n
 
   -- the packets of an earlier picture stay
   packets_stay : (coded : List (Coded Style Mb Picture)) (x : Coded Style Mb Picture) (n : ℕ) → n < length coded
       → packets_of (coded ++ x ∷ []) n ≡ packets_of coded n
-  unfolding call.packets_of
+  unfolding call.packets_at
   packets_stay coded x n few =
       λ i. option_map_or (λ (y : Coded Style Mb Picture). (encoding p).packets n
       (call.packets_before (take_front coded x n (omega (arith, few)) i)) (call.header_of (rules_of p) n y)
       y.slices) (get_front coded x n few i) []
 
   packets_past : (coded : List (Coded Style Mb Picture)) (n : ℕ) → length coded ≤ n → packets_of coded n ≡ []
-  unfolding call.packets_of
+  unfolding call.packets_at
   packets_past coded n few =
       ap (λ (o : Option (Coded Style Mb Picture)). option_map_or (λ (y : Coded Style Mb Picture). (encoding p).packets n
       (call.packets_before (take n coded)) (call.header_of (rules_of p) n y) y.slices) o []) (get_past coded n few)
@@ -84,7 +84,7 @@ module _ (p : Params) where
   -- with those of one picture more
   pub has_one_more : (ring new : SentPackets) (coded : List (Coded Style Mb Picture)) (x : Coded Style Mb Picture)
       (packets : List (List ℕ))
-      → HasPackets p ring coded → ((pictures : Pictures) → HoldsPackets ring pictures
+      → HasPackets p ring coded → ((pictures : PacketsOfPictures) → HoldsPackets ring pictures
       → HoldsPackets new (pictures ++ packets ∷ []))
       → packets ≡ packets_of (coded ++ x ∷ []) (length coded) → HasPackets p new (coded ++ x ∷ [])
   has_one_more ring new coded x packets has kept is = record {

@@ -58,7 +58,7 @@ pub record AreJoined (p : Params) (pace : List ℕ → ℕ) (sender : State) (re
     (frames : List Frame) (before : List ReceiverEntry) (past : List Event) : Type 0 where
   pub sender_params : sender.params ≡ p
   pub receiver_params : receiver.params ≡ p
-  pub sends : sender_end.Stands pace sender
+  pub sends : sender_end.PacedStands pace sender
       (sender_entries (coding p) (rules_of p) (receiver_end.run_of p before) pace frames past)
   pub receives : receiver_end.Stands receiver (receiver_entries
       (coding p) (rules_of p) (receiver_end.run_of p before) pace frames past ++ before)
@@ -66,4 +66,4 @@ pub record AreJoined (p : Params) (pace : List ℕ → ℕ) (sender : State) (re
 -- the sender stands for some entries
 pub record IsStanding (pace : List ℕ → ℕ) (sender : State) : Type 0 where
   pub entries : List (SenderEntry Frame)
-  pub stands : sender_end.Stands pace sender entries
+  pub stands : sender_end.PacedStands pace sender entries

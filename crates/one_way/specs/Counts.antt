@@ -24,9 +24,9 @@ one_held Patched = 0
 one_held Held = 1
 
 -- how many plays have a mark, by whether one has it
-abbrev pub count_of : {Picture : Type 0} → (CallMark → ℕ) → List (Shown Picture) → ℕ
-count_of one [] = 0
-count_of one (shown ∷ plays) = count_of one plays + one shown.mark
+abbrev pub plays_marked : {Picture : Type 0} → (CallMark → ℕ) → List (Shown Picture) → ℕ
+plays_marked one [] = 0
+plays_marked one (shown ∷ plays) = plays_marked one plays + one shown.mark
 
 -- ---- as they are counted
 
@@ -34,16 +34,16 @@ abbrev pub no_marks : Tally
 no_marks = record { exact = 0; patched = 0; held = 0 }
 
 -- with one more of a mark
-abbrev pub counted : Mark → Tally → Tally
-counted marks.Exact tally = record tally { exact = tally.exact + 1 }
-counted marks.Patched tally = record tally { patched = tally.patched + 1 }
-counted marks.Held tally = record tally { held = tally.held + 1 }
+abbrev pub tally_counted : Mark → Tally → Tally
+tally_counted marks.Exact tally = record tally { exact = tally.exact + 1 }
+tally_counted marks.Patched tally = record tally { patched = tally.patched + 1 }
+tally_counted marks.Held tally = record tally { held = tally.held + 1 }
 
 abbrev pub total_of : Tally → ℕ
 total_of tally = tally.exact + tally.patched + tally.held
 
 -- these are the marks of the plays
 pub record AreCounted {Picture : Type 0} (tally : Tally) (plays : List (Shown Picture)) : Type 0 where
-  pub exact : tally.exact ≡ count_of one_exact plays
-  pub patched : tally.patched ≡ count_of one_patched plays
-  pub held : tally.held ≡ count_of one_held plays
+  pub exact : tally.exact ≡ plays_marked one_exact plays
+  pub patched : tally.patched ≡ plays_marked one_patched plays
+  pub held : tally.held ≡ plays_marked one_held plays

@@ -4,7 +4,7 @@ use Rattle.one_way.specs.declared.network.Network.{Network}
 use Rattle.one_way.specs.declared.way.Way.{Way}
 use Rattle.one_way.specs.declared.references.References.{References}
 use Rattle.one_way.specs.declared.tally.Tally.{Tally}
-use Rattle.one_way.specs.Counts.{AreCounted, counted}
+use Rattle.one_way.specs.Counts.{AreCounted, tally_counted}
 use Rattle.one_way.specs.Network.{HasPackets, HasReferences, told_by}
 use Rattle.one_way.specs.References.{AreNoted}
 use Rattle.one_way.specs.Both.{AreJoined, State, both_after, next_of, steady}
@@ -14,9 +14,9 @@ use Rattle.one_way.specs.Way.{CanSend, HoldsNetwork, HoldsWay, IsNewNetwork, IsN
 use Rattle.one_way.specs.Seen.{in_both, in_call, reference_in}
 use Rattle.h263_types.specs.Sizes.{mbs_of}
 use Rattle.call_model.specs.CodedPictures.{Coded, capture}
-use Rattle.call_model.specs.Sending.{SenderEntry, header_of, packets_of}
-use Rattle.call_rings.specs.Parts.{size_of}
-use Rattle.call_rings.specs.Keeping.{HoldsPackets, Pictures, kept_of, period_of}
+use Rattle.call_model.specs.Sending.{SenderEntry, header_of, packets_at}
+use Rattle.call_rings.specs.Parts.{total_size}
+use Rattle.call_rings.specs.Keeping.{HoldsPackets, PacketsOfPictures, kept_of, ring_period}
 use Rattle.call_rings.specs.declared.sent_packets.SentPackets.{SentPackets}
 use Rattle.sender_end.specs.Stands as sender_end
 use Rattle.receiver_end.specs.declared.kept.Kept.{Kept}
@@ -29,7 +29,7 @@ use Rattle.std.specs.Option.{option_map_or}
 use Rattle.h263_types.specs.declared.clock.Clock.{Clock}
 use Rattle.h263_types.specs.declared.params.Params.{Params}
 use Rattle.h263_types.specs.Params.{IsParams}
-use Rattle.back_messages.specs.Said.{text_of}
+use Rattle.back_messages.specs.Said.{text_of_said}
 use Rattle.back_messages.specs.declared.writing.Said.{Said}
 use Rattle.call_model.specs.Coding.{Header, Message, Shown, Slice}
 use Rattle.call_model.specs.IdealCall.{Event, Send, Deliver, Play, Back, AllMayHappen, ideal}
@@ -48,7 +48,7 @@ use Rattle.call_encoding.specs.Frames.{Frame}
 use Rattle.call_encoding.specs.Messages.{write_message}
 use Rattle.coded_call.specs.Bytes.{AreBytes}
 use Rattle.coded_call.specs.Coding.{coding}
-use Rattle.receiver_end.specs.Answers.{IsMessage, IsSaid, mark_of, said_by}
+use Rattle.receiver_end.specs.Answers.{SaysMessage, IsSaid, mark_from, said_by}
 
 pub record CallLaws (p : Params) : Type 0 where
   -- each end does what its own run does
@@ -69,10 +69,10 @@ ShowTheSame p frames past =
     in_both (both_after p (steady p) frames [] past) ≡ in_call (ideal (coding p) (rules_of p) (steady p) frames past)
 
 -- a message is said by the bytes that are written of it, and a picture has a packet for each slice
-pub record MessageLaws (p : Params) : Type 0 where
+pub record NetworkLaws (p : Params) : Type 0 where
   pub said : (clock : Clock) (said : Said) (message : Message)
-      → AreBytes (text_of said) → IsSaid clock said message
-      → text_of said ≡ write_message message
+      → AreBytes (text_of_said said) → IsSaid clock said message
+      → text_of_said said ≡ write_message message
   pub count : (number sequence : ℕ) (h : Header Style) (slices : List (Slice Mb))
       → length ((encoding p).packets number sequence h slices) ≡ length slices
 
@@ -80,14 +80,14 @@ pub record MessageLaws (p : Params) : Type 0 where
 -- any picture that was captured, whatever was chosen as its reference.
 pub record PacketLaws (p : Params) : Type 0 where
   pub room : (pace : List ℕ → ℕ) (entries : List (SenderEntry Frame)) (n : ℕ) → IsPace pace
-      → let packets = packets_of (encoding p) (rules_of p) (sender_end.run_of p pace entries).coded n in
-      (size_of packets ≤ 1200 * mbs_of p.format) × (length packets ≤ mbs_of p.format)
+      → let packets = packets_at (encoding p) (rules_of p) (sender_end.entries_run p pace entries).coded n in
+      (total_size packets ≤ 1200 * mbs_of p.format) × (length packets ≤ mbs_of p.format)
   pub captured : (quant : ℕ) (frame : Frame) (coded : List (Coded Style Mb Picture)) (reference : Option ℕ)
       (n sequence : ℕ)
       → (0 < quant) × (quant < 32)
       → let x = capture (pictures p.format) (encoding p) quant frame coded reference in
       let packets = (encoding p).packets n sequence (header_of (rules_of p) n x) x.slices in
-      (size_of packets ≤ 1200 * mbs_of p.format) × (length packets ≤ mbs_of p.format)
+      (total_size packets ≤ 1200 * mbs_of p.format) × (length packets ≤ mbs_of p.format)
 
 -- an event that isn't refused is near, and what it asks for is there
 pub record NearLaws (p : Params) : Type 0 where
@@ -111,12 +111,12 @@ pub record WayLaws (p : Params) : Type 0 where
   -- a new network keeps what was done in no event
   pub first : (pictures : ℕ) (network : Network) (sender : State) (receiver : Kept)
       (before : List ReceiverEntry) (frames : List Frame)
-      → IsNewNetwork p pictures network → sender.params ≡ p → sender_end.Stands (steady p) sender []
+      → IsNewNetwork p pictures network → sender.params ≡ p → sender_end.PacedStands (steady p) sender []
       → receiver.params ≡ p → receiver_end.Stands receiver before
       → HoldsNetwork p network sender receiver before frames []
   -- and a new sender can send over a new way
   pub can : (pictures : ℕ) (way : Way) (sender : State) → IsParams p → IsNewWay p pictures way
-      → sender.params ≡ p → sender_end.Stands (steady p) sender [] → sender.pace.quant ≡ p.quant → sender.sent ≡ 0
+      → sender.params ≡ p → sender_end.PacedStands (steady p) sender [] → sender.pace.quant ≡ p.quant → sender.sent ≡ 0
       → CanSend way sender
   -- frames after those that were sent change nothing of a way
   pub later : (way : Way) (sender : State) (receiver : Kept) (before : List ReceiverEntry)
@@ -176,13 +176,13 @@ pub record RingLaws (p : Params) : Type 0 where
   pub none : (ring : SentPackets) → HoldsPackets ring [] → HasPackets p ring []
   pub packets : (ring new : SentPackets) (coded : List (Coded Style Mb Picture)) (x : Coded Style Mb Picture)
       (packets : List (List ℕ)) → HasPackets p ring coded
-      → ((pictures : Pictures) → HoldsPackets ring pictures → HoldsPackets new (pictures ++ packets ∷ []))
-      → packets ≡ packets_of (encoding p) (rules_of p) (coded ++ x ∷ []) (length coded)
+      → ((pictures : PacketsOfPictures) → HoldsPackets ring pictures → HoldsPackets new (pictures ++ packets ∷ []))
+      → packets ≡ packets_at (encoding p) (rules_of p) (coded ++ x ∷ []) (length coded)
       → HasPackets p new (coded ++ x ∷ [])
   -- the packets of one of the last pictures
   pub kept : (ring : SentPackets) (coded : List (Coded Style Mb Picture)) (n : ℕ) (has : HasPackets p ring coded)
-      → n < length coded → length coded ≤ n + period_of ring
-      → kept_of (period_of ring) has.pictures n ≡ packets_of (encoding p) (rules_of p) coded n
+      → n < length coded → length coded ≤ n + ring_period ring
+      → kept_of (ring_period ring) has.pictures n ≡ packets_at (encoding p) (rules_of p) coded n
   -- the reference of one picture more, and that of one of the last pictures
   pub noted : (old new : References) (coded : List (Coded Style Mb Picture)) (x : Coded Style Mb Picture)
       → HasReferences old coded
@@ -194,14 +194,14 @@ pub record RingLaws (p : Params) : Type 0 where
       → result ≡ slice_index_or list n None)
       → n < length coded → length coded ≤ n + 512 → result ≡ reference_in coded n
   -- what is told of picture n, where a packet has this answer, and where a play says this message
-  pub answered : (n : ℕ) (said : Option Said) (answer : Heard Fault) → IsMessage p.clock said (said_by answer)
-      → IfSome said (λ s. AreBytes (text_of s)) → told_by n said ≡ said_to write_message n answer
-  pub told : (n : ℕ) (said : Option Said) (message : Option Message) → IsMessage p.clock said message
-      → IfSome said (λ s. AreBytes (text_of s))
+  pub answered : (n : ℕ) (said : Option Said) (answer : Heard Fault) → SaysMessage p.clock said (said_by answer)
+      → IfSome said (λ s. AreBytes (text_of_said s)) → told_by n said ≡ said_to write_message n answer
+  pub told : (n : ℕ) (said : Option Said) (message : Option Message) → SaysMessage p.clock said message
+      → IfSome said (λ s. AreBytes (text_of_said s))
       → told_by n said ≡ option_map_or (λ (m : Message). let told : SaidMessage = record {
         about = n;
         bytes = write_message m;
       } in told ∷ []) message []
   -- the mark of one play more
   pub counted : (mark : Mark) (tally : Tally) (shown : Shown Picture) (plays : List (Shown Picture))
-      → mark ≡ mark_of shown.mark → AreCounted tally plays → AreCounted (counted mark tally) (shown ∷ plays)
+      → mark ≡ mark_from shown.mark → AreCounted tally plays → AreCounted (tally_counted mark tally) (shown ∷ plays)

@@ -4,7 +4,7 @@ use Rattle.h263_types.specs.declared.blocks.Mb.{Mb}
 use Rattle.h263_types.specs.declared.params.Params.{Params}
 use Rattle.h263_planes.specs.Picture.{Picture}
 use Rattle.back_messages.specs.declared.writing.Said.{Said}
-use Rattle.back_messages.specs.Said.{text_of}
+use Rattle.back_messages.specs.Said.{text_of_said}
 use Rattle.call_model.specs.CodedPictures.{Coded}
 use Rattle.call_model.specs.JoinedRun.{SaidMessage}
 use Rattle.call_model.specs.Sending as call
@@ -14,9 +14,9 @@ use Rattle.call_encoding.specs.Encoding.{encoding}
 use Rattle.call_rings.specs.declared.sent_packets.SentPackets.{SentPackets}
 use Rattle.call_rings.specs.declared.messages.MessageRing.{MessageRing}
 use Rattle.call_rings.specs.Keeping as ring
-use Rattle.call_rings.specs.Keeping.{HoldsPackets, room_of, most_of}
+use Rattle.call_rings.specs.Keeping.{HoldsPackets, ring_room, most_of}
 use Rattle.call_rings.specs.Messages.{HoldsMessages}
-use Rattle.call_rings.specs.Parts.{size_of}
+use Rattle.call_rings.specs.Parts.{total_size}
 use Rattle.one_way.specs.declared.references.References.{References}
 use Rattle.one_way.specs.References.{AreNoted}
 
@@ -24,26 +24,26 @@ use Rattle.one_way.specs.References.{AreNoted}
 
 -- the ring keeps some pictures
 pub record IsKeeping (packets : SentPackets) : Type 0 where
-  pub pictures : ring.Pictures
+  pub pictures : ring.PacketsOfPictures
   pub keeps : HoldsPackets packets pictures
 
 -- there is room for these packets of one picture
 pub record AreRoomy (packets : SentPackets) (list : List (List ℕ)) : Type 0 where
-  pub bytes : size_of list ≤ room_of packets
+  pub bytes : total_size list ≤ ring_room packets
   pub count : length list ≤ most_of packets
 
 -- the ring keeps the packets of these pictures, which were sent
 pub record HasPackets (p : Params) (packets : SentPackets) (coded : List (Coded Style Mb Picture)) : Type 0 where
-  pub pictures : ring.Pictures
+  pub pictures : ring.PacketsOfPictures
   pub keeps : HoldsPackets packets pictures
   pub count : length pictures ≡ length coded
-  pub each : (n : ℕ) → slice_index_or pictures n [] ≡ call.packets_of (encoding p) (rules_of p) coded n
+  pub each : (n : ℕ) → slice_index_or pictures n [] ≡ call.packets_at (encoding p) (rules_of p) coded n
 
 -- ---- messages
 
 -- a message that was said, by its picture and its bytes
 abbrev pub told_in : ℕ × Said → SaidMessage
-told_in x = record { about = x.0; bytes = text_of x.1 }
+told_in x = record { about = x.0; bytes = text_of_said x.1 }
 
 abbrev pub about_of : ℕ × Said → ℕ
 about_of x = x.0

@@ -3,7 +3,7 @@ use Rattle.std.specs.Prelude.{◌≡◌, ℕ, ◌+◌, ◌*◌, ◌<◌, ◌≤�
 use Rattle.h263_types.specs.declared.params.Params.{Params}
 use Rattle.h263_types.specs.Sizes.{mbs_of}
 use Rattle.h263_planes.specs.Picture.{Picture}
-use Rattle.call_rings.specs.Keeping.{begun_of, most_of, period_of, room_of}
+use Rattle.call_rings.specs.Keeping.{begun_of, most_of, ring_period, ring_room}
 use Rattle.call_rings.specs.Messages.{said_of}
 use Rattle.call_model.specs.IdealCall.{Event}
 use Rattle.call_model.specs.JoinedRun.{AllMayHappenBoth, MayHappenBoth}
@@ -25,7 +25,7 @@ use Rattle.one_way.specs.Network.{HasMessages, HasPackets, HasReferences, IsKeep
 
 -- how many pictures' packets a way keeps, and how many there may be of each picture
 abbrev pub kept_in : Way → ℕ
-kept_in way = period_of way.packets
+kept_in way = ring_period way.packets
 
 abbrev pub most_in : Way → ℕ
 most_in way = most_of way.packets
@@ -74,7 +74,7 @@ pub record CanSend (way : Way) (sender : State) : Type 0 where
   pub in_range : IsParams sender.params
   pub standing : IsStanding (steady sender.params) sender
   pub quant_is : sender.pace.quant ≡ sender.params.quant
-  pub room : room_of way.packets ≡ 1200 * mbs_of sender.params.format
+  pub room : ring_room way.packets ≡ 1200 * mbs_of sender.params.format
   pub most : most_in way ≡ mbs_of sender.params.format
   pub keeping : IsKeeping way.packets
   pub begun : begun_of way.packets ≡ sender.sent
@@ -94,7 +94,7 @@ pub record SaysNothing (old new : Network) : Type 0 where
 
 pub record IsNewWay (p : Params) (pictures : ℕ) (way : Way) : Type 0 where
   pub period : kept_in way ≡ pictures
-  pub room : room_of way.packets ≡ 1200 * mbs_of p.format
+  pub room : ring_room way.packets ≡ 1200 * mbs_of p.format
   pub most : most_in way ≡ mbs_of p.format
   pub begun : begun_of way.packets ≡ 0
   pub total : total_of (tally_of way) ≡ 0

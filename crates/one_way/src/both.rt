@@ -26,7 +26,7 @@ impl Both {
         ensures sent { IfOk result (λ both. both.sender.sent ≡ 0) }
         ensures played { IfOk result (λ both. both.receiver.played ≡ 0) }
         ensures sends { IfOk result (λ both.
-            sender_end.Stands (steady params.now) both.sender []) }
+            sender_end.PacedStands (steady params.now) both.sender []) }
         ensures receives { IfOk result (λ both. receiver_end.Stands both.receiver []) }
     {
         let pace = FixedPace {

@@ -10,7 +10,7 @@ ghost use Rattle.call_encoding.specs.Frames.{Frame};
 ghost use Rattle.coded_call.specs.Coding.{coding};
 ghost use Rattle.receiver_end.specs.State.{run_of};
 ghost use Rattle.one_way.specs.Both.{steady};
-ghost use Rattle.one_way.specs.Laws.{CallLaws, EventLaws, MessageLaws, NearLaws, PacketLaws};
+ghost use Rattle.one_way.specs.Laws.{CallLaws, EventLaws, NetworkLaws, NearLaws, PacketLaws};
 ghost use Rattle.one_way.specs.Laws.{RingLaws, ShowTheSame, WayLaws};
 
 use back_messages::MessageFault;
@@ -52,7 +52,7 @@ pub fn call_laws()
 /// A message is said by the bytes that are written of it, and a picture has a packet for each
 /// slice.
 pub fn message_laws()
-    ensures { (p : Params) → MessageLaws p }
+    ensures { (p : Params) → NetworkLaws p }
 {
     said_bytes();
     written_packets();

@@ -1,7 +1,7 @@
 //! A way whose messages wait for their return, by their numbers.
 ghost use Rattle.std.specs.Prelude.{◌≡◌, ◌+◌, ◌^◌, ◌<◌, ◌≤◌, ℕ, Some, List, ◌∷◌, ◌++◌, IfOk, IfSome};
 ghost use Rattle.std.specs.Prelude.{length, slice_get};
-ghost use Rattle.back_messages.specs.Said.{text_of};
+ghost use Rattle.back_messages.specs.Said.{text_of_said};
 ghost use Rattle.coded_call.specs.Bytes.{AreBytes};
 ghost use Rattle.h263_types.specs.declared.params.Params.{Params};
 ghost use Rattle.h263_types.specs.Params.{IsParams};
@@ -14,7 +14,7 @@ ghost use Rattle.call_model.specs.Receiving.{ReceiverEntry, played_mark};
 ghost use Rattle.call_decoding.specs.Rules.{rules_of};
 ghost use Rattle.call_encoding.specs.Frames.{Frame};
 ghost use Rattle.receiver_end.specs.declared.kept.Kept.{Kept};
-ghost use Rattle.receiver_end.specs.Answers.{mark_of};
+ghost use Rattle.receiver_end.specs.Answers.{mark_from};
 ghost use Rattle.receiver_end.specs.Decoding.{decoding};
 ghost use Rattle.receiver_end.specs.State as receiver_end;
 ghost use Rattle.one_way.specs.Both.{IsSameSender, State, both_after, carrying, steady};
@@ -161,7 +161,7 @@ impl Network {
         ensures mark { (p : Params) (sender : State) (before : List ReceiverEntry)
             (frames : List Frame) (past : List Event)
             → HoldsNetwork p self.old sender receiver.old before frames past
-            → result.mark ≡ mark_of (played_mark (decoding p.format) (rules_of p)
+            → result.mark ≡ mark_from (played_mark (decoding p.format) (rules_of p)
             (both_after p (steady p) frames before past).receiver) }
     {
         let played = self.way.play(receiver);

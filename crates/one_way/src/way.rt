@@ -2,21 +2,21 @@
 //! Both ends are lent to each call.
 ghost use Rattle.std.specs.Prelude.{◌≡◌, ◌+◌, ◌^◌, ◌<◌, ◌≤◌, ℕ, Some, List, [], ◌∷◌, ◌++◌};
 ghost use Rattle.std.specs.Prelude.{IfOk, IfSome, length, slice_get};
-ghost use Rattle.back_messages.specs.Said.{text_of};
+ghost use Rattle.back_messages.specs.Said.{text_of_said};
 ghost use Rattle.coded_call.specs.Bytes.{AreBytes};
 ghost use Rattle.h263_types.specs.declared.params.Params.{Params};
 ghost use Rattle.h263_types.specs.Params.{IsParams};
 ghost use Rattle.h263_planes.specs.Lent.{picture as lent};
 ghost use Rattle.picture_header.specs.Ranges.{AreMessages};
-ghost use Rattle.call_rings.specs.Keeping.{HoldsPackets, HasSizes, Pictures, begun_of, kept_of};
-ghost use Rattle.call_rings.specs.Keeping.{most_of, period_of, room_of};
+ghost use Rattle.call_rings.specs.Keeping.{HoldsPackets, HasSizes, PacketsOfPictures, begun_of, kept_of};
+ghost use Rattle.call_rings.specs.Keeping.{most_of, ring_period, ring_room};
 ghost use Rattle.call_model.specs.IdealCall.{Back, Event, Deliver, Play, Send, slices_at};
 ghost use Rattle.call_model.specs.JoinedRun.{SaidMessage};
 ghost use Rattle.call_model.specs.Receiving.{ReceiverEntry, played_mark};
 ghost use Rattle.call_decoding.specs.Rules.{rules_of};
 ghost use Rattle.call_encoding.specs.Frames.{Frame};
 ghost use Rattle.receiver_end.specs.declared.kept.Kept.{Kept};
-ghost use Rattle.receiver_end.specs.Answers.{mark_of};
+ghost use Rattle.receiver_end.specs.Answers.{mark_from};
 ghost use Rattle.receiver_end.specs.Decoding.{decoding};
 ghost use Rattle.receiver_end.specs.State as receiver_end;
 ghost use Rattle.one_way.specs.Both.{IsSameSender, State, both_after, carrying, steady};
@@ -51,10 +51,10 @@ fn keep_packets(packets: &mut SentPackets, sender: &Sender<FixedPace>, count: u3
     requires keeping { IsKeeping packets.old }
     requires room { AreRoomy packets.old sender.now.packets }
     requires few { begun_of packets.old + 1 < 2 ^ 32 }
-    ensures kept { (pictures : Pictures) → HoldsPackets packets.old pictures
+    ensures kept { (pictures : PacketsOfPictures) → HoldsPackets packets.old pictures
         → HoldsPackets packets.new (pictures ++ sender.now.packets ∷ []) }
     ensures sizes { let ring = packets.old in
-        HasSizes packets.new (period_of ring) (room_of ring) (most_of ring) }
+        HasSizes packets.new (ring_period ring) (ring_room ring) (most_of ring) }
     ensures begun { begun_of packets.new ≡ begun_of packets.old + 1 }
 {
     call_rings_laws::has_room();
@@ -73,7 +73,7 @@ pub fn are_bytes(bytes: &[u8])
 // What was said, if anything was: bytes.
 fn as_said(said: Option<Said>) -> Option<Said>
     ensures same { result ≡ said }
-    ensures bytes { IfSome result (λ said. AreBytes (text_of said)) }
+    ensures bytes { IfSome result (λ said. AreBytes (text_of_said said)) }
 {
     if let Some(said) = &said {
         are_bytes(said.text());
@@ -134,7 +134,7 @@ impl Way {
 
     /// How many packets are kept of a picture: one for each of its slices.
     pub fn count(&self, number: u32) -> u32
-        ensures packets { (pictures : Pictures) → HoldsPackets self.now.packets pictures
+        ensures packets { (pictures : PacketsOfPictures) → HoldsPackets self.now.packets pictures
             → result ≡ length (kept_of (kept_in self.now) pictures number) }
         ensures slices { (p : Params) (sender : State) (receiver : Kept)
             (before : List ReceiverEntry) (frames : List Frame) (past : List Event)
@@ -154,7 +154,7 @@ impl Way {
     pub fn deliver(&self, receiver: &mut Receiver, number: u32, place: u32) -> Option<Said>
         ensures params { receiver.new.params ≡ receiver.old.params }
         ensures played { receiver.new.played ≡ receiver.old.played }
-        ensures bytes { IfSome result (λ said. AreBytes (text_of said)) }
+        ensures bytes { IfSome result (λ said. AreBytes (text_of_said said)) }
         ensures holds { (p : Params) (sender : State) (before : List ReceiverEntry)
             (frames : List Frame) (past : List Event)
             → HoldsWay p self.now sender receiver.old before frames past
@@ -188,7 +188,7 @@ impl Way {
         ensures params { receiver.new.params ≡ receiver.old.params }
         ensures played { receiver.new.played ≡ receiver.old.played + 1 }
         ensures number { result.number ≡ receiver.old.played }
-        ensures bytes { IfSome result.message (λ said. AreBytes (text_of said)) }
+        ensures bytes { IfSome result.message (λ said. AreBytes (text_of_said said)) }
         ensures counted { total_of (tally_of self.new) ≡ total_of (tally_of self.old) + 1 }
         ensures way { OnlyCounts self.old self.new }
         ensures holds { (p : Params) (sender : State) (before : List ReceiverEntry)
@@ -205,7 +205,7 @@ impl Way {
         ensures mark { (p : Params) (sender : State) (before : List ReceiverEntry)
             (frames : List Frame) (past : List Event)
             → HoldsWay p self.old sender receiver.old before frames past
-            → result.mark ≡ mark_of (played_mark (decoding p.format) (rules_of p)
+            → result.mark ≡ mark_from (played_mark (decoding p.format) (rules_of p)
             (both_after p (steady p) frames before past).receiver) }
     {
         laws::ends_run();

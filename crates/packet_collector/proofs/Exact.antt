@@ -20,7 +20,7 @@ use Rattle.slice_layer.specs.Text.{IsSliceText, slice_at}
 use Rattle.slice_layer.specs.Filled.{mbs_from}
 use Rattle.packet_collector.specs.declared.piece.Piece.{Piece}
 use Rattle.h263_payload.specs.Headed.{IsHeaded}
-use Rattle.packet_collector.specs.Packet.{Slice, data_of, IsPacket, headed_at, with_header, slice_after, packet_at, packet_fault}
+use Rattle.packet_collector.specs.Packet.{PacketSlice, data_of, IsPacket, headed_at, with_header, slice_after, packet_at, packet_fault}
 use Rattle.packet_collector.specs.Laws.{PartLaws}
 use Rattle.packet_collector.specs.Filled.{slice_in, FillsPacket, IsExtraOf, IsPieceIn}
 
@@ -50,24 +50,27 @@ headed_sound format (Some x) h b c e =
     let same = ok_is (x, b) (h, c) e in
     ([], ap (λ (y : Header × Bits). y.1.bits) same, (ap (λ (y : Header × Bits). y.0) same, refl))
 
-record IsWith (h : Header) (r : Result (ℕ × List Mb) Fault) (s : Slice) : Type 0 where
+record IsWith (h : Header) (r : Result (ℕ × List Mb) Fault) (s : PacketSlice) : Type 0 where
   read : r ≡ Ok (s.first, s.mbs)
   header : s.header ≡ h
 
-with_ok : (h : Header) (r : Result (ℕ × List Mb) Fault) (s : Slice) → with_header h r ≡ Ok s → IsWith h r s
+with_ok : (h : Header) (r : Result (ℕ × List Mb) Fault) (s : PacketSlice) → with_header h r ≡ Ok s → IsWith h r s
 with_ok h (Ok x) s e =
     let same = ok_is (record { header = h; first = x.0; mbs = x.1 }) s e in
-    record { read = ap (λ (t : Slice). Ok (t.first, t.mbs)) same; header = ap (λ (t : Slice). t.header) (sym same) }
+    record {
+      read = ap (λ (t : PacketSlice). Ok (t.first, t.mbs)) same;
+      header = ap (λ (t : PacketSlice). t.header) (sym same);
+    }
 with_ok h (Err fault) s e = absurd cc
 
-record IsAfterText (format : Format) (p : Payload) (s : Slice) (bits : List Bool) : Type 0 where
+record IsAfterText (format : Format) (p : Payload) (s : PacketSlice) (bits : List Bool) : Type 0 where
   front : List Bool
   after : List Bool
   parts : bits ≡ front ++ after
   headed : IsHeaded format p.extra s.header front
   text : IsSliceText s.header p.begins s.first s.mbs after
 
-after_sound : PartLaws → (format : Format) (p : Payload) (s : Slice) (b : Bits) → slice_after format p b ≡ Ok s
+after_sound : PartLaws → (format : Format) (p : Payload) (s : PacketSlice) (b : Bits) → slice_after format p b ≡ Ok s
     → IsAfterText format p s b.bits
 unfolding slice_after
 after_sound laws format p s b e =
@@ -86,7 +89,7 @@ after_sound laws format p s b e =
     }
 
 -- what is read of a packet is spelled by its bytes
-pub packet_sound : PartLaws → (format : Format) (s : Slice) (bytes : List ℕ) → packet_at format bytes ≡ Ok s
+pub packet_sound : PartLaws → (format : Format) (s : PacketSlice) (bytes : List ℕ) → packet_at format bytes ≡ Ok s
     → IsPacket format s bytes
 unfolding packet_at
 packet_sound laws format s bytes e =
@@ -131,7 +134,7 @@ headed_again laws format (Some x) h at front rest t = record {
   bits = ap (λ (l : List Bool). l ++ rest) t.1;
 }
 
-pub packet_complete : PartLaws → (format : Format) (s : Slice) (bytes : List ℕ) → IsPacket format s bytes
+pub packet_complete : PartLaws → (format : Format) (s : PacketSlice) (bytes : List ℕ) → IsPacket format s bytes
     → packet_at format bytes ≡ Ok s
 unfolding packet_at slice_after
 packet_complete laws format s bytes t =
@@ -157,7 +160,7 @@ fills_packet laws (Err fault) out format bytes g = tt
 
 pub packet_fills : PartLaws → (r : Result Piece Fault) (out : List Mb) (format : Format) (bytes : List ℕ)
     → IfOk r (IsPieceIn format out) → length out ≡ mbs_of format → FillsPacket r out (packet_at format bytes)
-    → (s : Slice) → IsPacket format s bytes
+    → (s : PacketSlice) → IsPacket format s bytes
     → IsOkAnd r (λ piece. (piece.head.count ≡ length s.mbs) × (slice_in piece out ≡ s))
 packet_fills laws (Ok piece) out format bytes range size g s is =
     let same = ok_is (slice_in piece out) s (sym g ∙ packet_complete laws format s bytes is) in
@@ -171,11 +174,11 @@ packet_fills laws (Ok piece) out format bytes range size g s is =
       length-drop first out,
       range.slice.head.within,
     )) in
-    (sym long ∙ ap (λ (x : Slice). length x.mbs) same, same)
+    (sym long ∙ ap (λ (x : PacketSlice). length x.mbs) same, same)
 packet_fills laws (Err fault) out format bytes range size g s is = absurd (err_not_ok fault s (sym g
     ∙ packet_complete laws format s bytes is))
 
-pub fault_is : (r : Result Piece Fault) (out : List Mb) (read : Result Slice Fault) → FillsPacket r out read
+pub fault_is : (r : Result Piece Fault) (out : List Mb) (read : Result PacketSlice Fault) → FillsPacket r out read
     → first_fault r ≡ first_fault read
 fault_is (Ok piece) out read g = ap first_fault (sym g)
 fault_is (Err fault) out read g = ap first_fault (sym g)
@@ -183,22 +186,22 @@ fault_is (Err fault) out read g = ap first_fault (sym g)
 -- ---- laws
 
 pub no_fault : PartLaws → (format : Format) (bytes : List ℕ) → packet_fault format bytes ≡ None
-    → (s : Slice) × IsPacket format s bytes
+    → (s : PacketSlice) × IsPacket format s bytes
 no_fault laws format bytes e = at (packet_at format bytes) refl e
   where
-    at : (r : Result Slice Fault) → packet_at format bytes ≡ r → first_fault r ≡ None
-        → (s : Slice) × IsPacket format s bytes
+    at : (r : Result PacketSlice Fault) → packet_at format bytes ≡ r → first_fault r ≡ None
+        → (s : PacketSlice) × IsPacket format s bytes
     at (Ok s) is e = (s, packet_sound laws format s bytes is)
     at (Err fault) is e = absurd cc
 
-pub one_packet : PartLaws → (format : Format) (s other : Slice) (bytes : List ℕ) → IsPacket format s bytes
+pub one_packet : PartLaws → (format : Format) (s other : PacketSlice) (bytes : List ℕ) → IsPacket format s bytes
     → IsPacket format other bytes → s ≡ other
 one_packet laws format s other bytes p q = ok_is s other (sym (packet_complete laws format s bytes p)
     ∙ packet_complete laws format other bytes q)
 
 -- ---- where a slice lies
 
-pub record IsInside (format : Format) (s : Slice) : Type 0 where
+pub record IsInside (format : Format) (s : PacketSlice) : Type 0 where
   pub format_is : s.header.format ≡ format
   pub some : 0 < length s.mbs
   pub within : s.first + length s.mbs ≤ mbs_of format
@@ -209,7 +212,7 @@ headed_format format plen pebit None middle h front t headed = header_format for
 headed_format format plen pebit (Some x) middle h front t headed = ap (λ (y : Header). y.format) (sym headed.0)
     ∙ extra_format format plen pebit (Some x) middle t
 
-pub packet_inside : (format : Format) (s : Slice) (bytes : List ℕ) → IsPacket format s bytes → IsInside format s
+pub packet_inside : (format : Format) (s : PacketSlice) (bytes : List ℕ) → IsPacket format s bytes → IsInside format s
 packet_inside format s bytes p =
     let payload = p.is_payload in
     let same = headed_format format payload.opening.plen payload.opening.pebit p.payload.extra payload.middle s.header

@@ -18,8 +18,8 @@ use Rattle.h263_payload.specs.Faults.{payload_at, payload_bits_of}
 use Rattle.slice_layer.specs.Text.{slice_at}
 use Rattle.slice_layer.specs.Faults.{IsSliceFault}
 use Rattle.packet_collector.specs.Laws.{PartLaws, FaultLaws}
-use Rattle.packet_collector.specs.Packet.{Slice, data_of, headed_at, with_header, slice_after, packet_at}
-use Rattle.packet_collector.specs.Rows.{Carries, IsPacketFault, in_rtp, in_payload, in_header, in_slice}
+use Rattle.packet_collector.specs.Packet.{PacketSlice, data_of, headed_at, with_header, slice_after, packet_at}
+use Rattle.packet_collector.specs.Rows.{CarriesPayload, IsPacketFault, in_rtp, in_payload, in_header, in_slice}
 
 -- ---- what a row has is found
 
@@ -69,7 +69,7 @@ headed_again laws format (Some x) h at front rest t =
     ∙ ap (λ (n : ℕ). ok {A = Header × Bits} (h, record { at = n; bits = rest })) place
 
 carried : PartLaws → (format : Format) (bytes : List ℕ) (rtp : Rtp) (payload : Payload)
-    → Carries format bytes rtp payload
+    → CarriesPayload format bytes rtp payload
     → (rtp_in bytes ≡ Ok rtp) × (payload_at format (payload_bits_of bytes rtp) ≡ Ok payload)
 carried laws format bytes rtp payload c = (
   laws.rtp_written rtp bytes c.is_rtp,
@@ -100,7 +100,7 @@ from_row laws faults format bytes kind at (in_slice rtp payload h front rest k p
 
 with_err : (h : Header) (r : Result (ℕ × List Mb) Fault) (fault : Fault) → with_header h r ≡ Err fault → r ≡ Err fault
 with_err h (Ok x) fault e = absurd (err_not_ok fault (record { header = h; first = x.0; mbs = x.1 }) (sym e))
-with_err h (Err d) fault e = ap (λ (c : Fault). err {A = ℕ × List Mb} c) (err_is {A = Slice} d fault e)
+with_err h (Err d) fault e = ap (λ (c : Fault). err {A = ℕ × List Mb} c) (err_is {A = PacketSlice} d fault e)
 
 -- a header that was read stands in front of what is left
 headed_found : (format : Format) (extra : Option Header) (h : Header) (b c : Bits) → headed_at format extra b
@@ -122,7 +122,7 @@ headed_err format None b fault e = (refl, e)
 headed_err format (Some x) b fault e = absurd (err_not_ok fault (x, b) (sym e))
 
 at_slice : FaultLaws → (format : Format) (bytes : List ℕ) (rtp : Rtp) (payload : Payload) (fault : Fault)
-    → Carries format bytes rtp payload → slice_after format payload (data_of bytes rtp payload) ≡ Err fault
+    → CarriesPayload format bytes rtp payload → slice_after format payload (data_of bytes rtp payload) ≡ Err fault
     → IsPacketFault format bytes fault.kind fault.at
 unfolding slice_after
 at_slice faults format bytes rtp payload fault c e =

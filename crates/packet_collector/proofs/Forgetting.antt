@@ -9,8 +9,8 @@ use Rattle.packet_collector.specs.declared.collector.Collector.{Collector}
 use Rattle.packet_collector.specs.declared.piece.Piece.{Piece}
 use Rattle.packet_collector.specs.declared.piece.Place.{Place}
 use Rattle.packet_collector.specs.declared.piece.Place.TheVariants.{HeaderDiffers, Repeat, Overlap, Fresh}
-use Rattle.packet_collector.specs.Taken.{Taken, holds, has_taken, has_any, IsPlace, HasOther, HasNoOther}
-use Rattle.packet_collector.specs.Collected.{Collects, IsKept, from_number, header_in}
+use Rattle.packet_collector.specs.Taken.{Taken, head_holds, is_mb_taken, is_any_taken, IsPlace, HasOther, HasNoOther}
+use Rattle.packet_collector.specs.Collected.{Collects, IsHeaderKept, from_number, header_in}
 use Rattle.packet_collector.proofs.Places.{clash}
 
 -- ---- one place
@@ -54,14 +54,15 @@ any_from test first (t ∷ ts) fails = at (nat_le first t.number) refl (any_from
 earlier : (first n : ℕ) (t : Taken) → first ≤ n → t.number < first → (t.number == n) ≡ false
 earlier first n t low lt = ne_eqb t.number n (λ same. omega (arith, same))
 
-any_left : (first n : ℕ) (taken : List Taken) → first ≤ n → has_any (from_number first taken) n ≡ has_any taken n
-unfolding has_any
+any_left : (first n : ℕ) (taken : List Taken) → first ≤ n → is_any_taken (from_number first taken) n
+    ≡ is_any_taken taken n
+unfolding is_any_taken
 any_left first n taken low = any_from (λ t. t.number == n) first taken (λ t lt. earlier first n t low lt)
 
-taken_left : (first n k : ℕ) (taken : List Taken) → first ≤ n → has_taken (from_number first taken) n k
-    ≡ has_taken taken n k
-unfolding has_taken
-taken_left first n k taken low = any_from (λ t. (t.number == n) && holds t.piece.head k) first taken
+taken_left : (first n k : ℕ) (taken : List Taken) → first ≤ n → is_mb_taken (from_number first taken) n k
+    ≡ is_mb_taken taken n k
+unfolding is_mb_taken
+taken_left first n k taken low = any_from (λ t. (t.number == n) && head_holds t.piece.head k) first taken
     (λ t lt. rw (earlier first n t low lt) refl)
 
 was_in : (first : ℕ) (taken : List Taken) (u : Taken) → IsIn u (from_number first taken) → IsIn u taken
@@ -74,8 +75,8 @@ was_in first (t ∷ ts) u is = at (nat_le first t.number) is (λ there. was_in f
     at true (inr there) more = inr (more there)
     at false there more = inr (more there)
 
-kept_left : (first n : ℕ) (taken : List Taken) (kept : Option Header) → first ≤ n → IsKept taken n kept
-    → IsKept (from_number first taken) n kept
+kept_left : (first n : ℕ) (taken : List Taken) (kept : Option Header) → first ≤ n → IsHeaderKept taken n kept
+    → IsHeaderKept (from_number first taken) n kept
 kept_left first n taken None low is = any_left first n taken low ∙ is
 kept_left first n taken (Some h) low is = (
   any_left first n taken low

@@ -7,21 +7,21 @@ use Rattle.h263_types.specs.declared.blocks.SliceHead.{SliceHead}
 use Rattle.h263_types.specs.Sizes.{mbs_of}
 use Rattle.h263_types.specs.Blocks.{IsHeadOf}
 use Rattle.packet_collector.specs.declared.collector.Collector.{Collector}
-use Rattle.packet_collector.specs.Taken.{Taken, has_taken, all_in, none_in}
-use Rattle.packet_collector.specs.Collected.{Collects, IsInRow, format_of, row_of, place_in, has_in}
+use Rattle.packet_collector.specs.Taken.{Taken, is_mb_taken, all_in_head, none_in_head}
+use Rattle.packet_collector.specs.Collected.{Collects, IsInRow, format_of, row_of, row_place_of, has_in}
 use Rattle.packet_collector.proofs.AllMarks.{all_same, all_marks, not_both}
 use Rattle.packet_collector.proofs.Rows.{below}
 
 -- the marks of a slice of a picture
 abbrev pub marks_of : Collector → ℕ → SliceHead → List Bool
-marks_of c n head = take head.count (drop (place_in c n * mbs_of (format_of c) + head.first) c.marks.items.items)
+marks_of c n head = take head.count (drop (row_place_of c n * mbs_of (format_of c) + head.first) c.marks.items.items)
 
 module _ (c : Collector) (n : ℕ) (head : SliceHead) (is : IsHeadOf (format_of c) head) where
   tests : (f : Bool → Bool) → list_all f (marks_of c n head)
       ≡ all_below head.count (λ i. f (has_in c n (head.first + i)))
   tests f =
       let m = mbs_of (format_of c) in
-      let p = place_in c n in
+      let p = row_place_of c n in
       let fits : p * m + head.first + head.count ≤ length c.marks.items.items = omega (
         arith,
         c.each,
@@ -32,21 +32,21 @@ module _ (c : Collector) (n : ℕ) (head : SliceHead) (is : IsHeadOf (format_of 
       ∙ all_same head.count _ _ (λ i lt. ap (λ (k : ℕ). f (get_or c.marks.items.items k false)) (omega arith))
 
   -- all marks of a piece are set exactly where all of its macroblocks are there
-  pub all_kept : list_all (λ mark. mark) (marks_of c n head) ≡ all_in head (has_in c n)
+  pub all_kept : list_all (λ mark. mark) (marks_of c n head) ≡ all_in_head head (has_in c n)
   all_kept = tests (λ mark. mark)
 
-  pub none_kept : list_all not (marks_of c n head) ≡ none_in head (has_in c n)
+  pub none_kept : list_all not (marks_of c n head) ≡ none_in_head head (has_in c n)
   none_kept = tests not
 
-  pub not_both_kept : all_in head (has_in c n) ≡ true → none_in head (has_in c n) ≡ true → ⊥
+  pub not_both_kept : all_in_head head (has_in c n) ≡ true → none_in_head head (has_in c n) ≡ true → ⊥
   not_both_kept = not_both head.count (λ i. has_in c n (head.first + i)) is.some
 
   module _ (first : ℕ) (taken : List Taken) (so : Collects c first taken) (row : IsInRow c n) where
     -- these were taken
-    pub all_is : all_in head (has_in c n) ≡ all_in head (has_taken taken n)
+    pub all_is : all_in_head head (has_in c n) ≡ all_in_head head (is_mb_taken taken n)
     all_is = all_same head.count _ _ (λ i lt. so.marks n (head.first + i) row (omega (arith, is.within)))
 
-    pub none_is : none_in head (has_in c n) ≡ none_in head (has_taken taken n)
+    pub none_is : none_in_head head (has_in c n) ≡ none_in_head head (is_mb_taken taken n)
     none_is = all_same head.count _ _ (λ i lt. ap not (so.marks n (head.first + i) row (omega (arith, is.within))))
 
 -- no test both holds and fails

@@ -7,10 +7,10 @@ use Rattle.picture_header.specs.declared.header.Header.{Header}
 use Rattle.picture_header.specs.Ranges.{IsHeader}
 use Rattle.slice_layer.specs.Filled.{IsSliceIn, mbs_from}
 use Rattle.packet_collector.specs.declared.piece.Piece.{Piece}
-use Rattle.packet_collector.specs.Packet.{Slice}
+use Rattle.packet_collector.specs.Packet.{PacketSlice}
 
 -- the slice that a piece and the picture's macroblocks hold
-abbrev pub slice_in : Piece → List Mb → Slice
+abbrev pub slice_in : Piece → List Mb → PacketSlice
 slice_in piece out = record {
   header = piece.header;
   first = piece.head.first;
@@ -18,7 +18,7 @@ slice_in piece out = record {
 }
 
 -- The call answered as a reading: its header and its slice, with the macroblocks in their places; or its fault.
-abbrev pub FillsPacket : Result Piece Fault → List Mb → Result Slice Fault → Type 0
+abbrev pub FillsPacket : Result Piece Fault → List Mb → Result PacketSlice Fault → Type 0
 FillsPacket (Ok piece) out read = read ≡ Ok (slice_in piece out)
 FillsPacket (Err fault) out read = read ≡ Err fault
 

@@ -18,7 +18,7 @@ use Rattle.h263_payload.specs.Faults.{payload_at, payload_bits_of}
 use Rattle.slice_layer.specs.Text.{IsSliceText, slice_at}
 
 -- what a packet spells: the header of its picture, the number of its first macroblock, and its macroblocks
-pub record Slice : Type 0 where
+pub record PacketSlice : Type 0 where
   pub header : Header
   pub first : ℕ
   pub mbs : List Mb
@@ -30,7 +30,7 @@ abbrev pub data_of : List ℕ → Rtp → Payload → Bits
 data_of bytes rtp payload = bits_between bytes payload.from (8 * rtp.to)
 
 -- the bytes are a packet of this slice
-pub record IsPacket (format : Format) (s : Slice) (bytes : List ℕ) : Type 0 where
+pub record IsPacket (format : Format) (s : PacketSlice) (bytes : List ℕ) : Type 0 where
   pub rtp : Rtp
   pub payload : Payload
   pub front : List Bool
@@ -48,16 +48,16 @@ abbrev pub headed_at : Format → Option Header → Bits → Result (Header × B
 headed_at format None b = reading (header format) b
 headed_at format (Some h) b = Ok (h, b)
 
-abbrev pub with_header : Header → Result (ℕ × List Mb) Fault → Result Slice Fault
+abbrev pub with_header : Header → Result (ℕ × List Mb) Fault → Result PacketSlice Fault
 with_header h (Ok s) = Ok (record { header = h; first = s.0; mbs = s.1 })
 with_header h (Err fault) = Err fault
 
-unfoldable pub slice_after : Format → Payload → Bits → Result Slice Fault
+unfoldable pub slice_after : Format → Payload → Bits → Result PacketSlice Fault
 slice_after format payload b =
     headed_at format payload.extra b >>= λ x. with_header x.0 (slice_at x.0 payload.begins x.1)
 
 -- the slice that a packet spells, or its first fault at its place
-unfoldable pub packet_at : Format → List ℕ → Result Slice Fault
+unfoldable pub packet_at : Format → List ℕ → Result PacketSlice Fault
 packet_at format bytes =
     rtp_in bytes >>= λ rtp. (payload_at format (payload_bits_of bytes rtp) >>= λ payload.
     slice_after format payload (data_of bytes rtp payload))

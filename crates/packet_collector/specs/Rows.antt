@@ -18,7 +18,7 @@ use Rattle.slice_layer.specs.Faults.{IsSliceFault}
 use Rattle.packet_collector.specs.Packet.{data_of}
 
 -- the bytes are an RTP packet, and what it carries is a payload
-pub record Carries (format : Format) (bytes : List ℕ) (rtp : Rtp) (payload : Payload) : Type 0 where
+pub record CarriesPayload (format : Format) (bytes : List ℕ) (rtp : Rtp) (payload : Payload) : Type 0 where
   pub is_rtp : IsRtp rtp bytes
   pub is_payload : IsPayload format payload (payload_bits_of bytes rtp)
 
@@ -29,12 +29,12 @@ pub data IsPacketFault (format : Format) (bytes : List ℕ) : FaultKind → ℕ 
       → IsPayloadFault format (payload_bits_of bytes rtp) kind at → IsPacketFault format bytes kind at
   -- the picture header in front of the slice, where there is no extra one
   in_header : (rtp : Rtp) (payload : Payload) (kind : FaultKind) (at : ℕ)
-      → Carries format bytes rtp payload → payload.extra ≡ None
+      → CarriesPayload format bytes rtp payload → payload.extra ≡ None
       → IsFirstFault (header format) (data_of bytes rtp payload) (record { kind = kind; at = at })
       → IsPacketFault format bytes kind at
   -- the slice after it, up to the padding
   in_slice : (rtp : Rtp) (payload : Payload) (h : Header) (front rest : List Bool)
-      (kind : FaultKind) (at : ℕ) → Carries format bytes rtp payload
+      (kind : FaultKind) (at : ℕ) → CarriesPayload format bytes rtp payload
       → (data_of bytes rtp payload).bits ≡ front ++ rest → IsHeaded format payload.extra h front
       → IsSliceFault h payload.begins
       (record { at = payload.from + length front; bits = rest }) (record { kind = kind; at = at })

@@ -32,8 +32,8 @@ impl Collector {
     ghost use Rattle.h263_types.specs.Params.{IsParams};
     ghost use Rattle.h263_types.specs.Blocks.{IsHeadOf};
     ghost use Rattle.packet_collector.specs.declared.piece.Place.TheVariants.{Fresh};
-    ghost use Rattle.packet_collector.specs.Taken.{Taken, has_taken, has_any, is_whole, IsPlace};
-    ghost use Rattle.packet_collector.specs.Collected.{Collects, IsInRow, IsFreshIn, IsRowFrom, FitsKept, first_of, row_of, format_of, place_in, header_in};
+    ghost use Rattle.packet_collector.specs.Taken.{Taken, is_mb_taken, is_any_taken, is_whole, IsPlace};
+    ghost use Rattle.packet_collector.specs.Collected.{Collects, IsInRow, IsFreshIn, IsRowFrom, FitsKept, first_of, row_of, format_of, row_place_of, header_in};
 
     /// An empty row from picture 0 on, of the next picture and `lead` more.
     pub fn start(alloc: Global, params: &Params) -> Result<Collector, OutOfMemory>
@@ -54,7 +54,7 @@ impl Collector {
 
     // The place of a picture.
     fn place_of(&self, number: u32) -> usize
-        ensures value { result ≡ place_in self.now number }
+        ensures value { result ≡ row_place_of self.now number }
         ensures below { result < row_of self.now }
     {
         number as usize % self.headers.len()
@@ -73,7 +73,7 @@ impl Collector {
     // The marks of a slice of a picture.
     fn marks_of(&self, number: u32, head: &SliceHead) -> &[bool]
         requires { IsHeadOf (format_of self.now) head.now }
-        ensures { result.now ≡ take head.now.count (drop (place_in self.now number
+        ensures { result.now ≡ take head.now.count (drop (row_place_of self.now number
             * mbs_of (format_of self.now) + head.now.first) (boxed_slice_items self.now.marks)) }
     {
         let from = self.marks_at(self.place_of(number)) + head.first as usize;
@@ -132,7 +132,7 @@ impl Collector {
         requires row { IsInRow self.now number }
         requires mb { mb < mbs_of (format_of self.now) }
         ensures { (first : ℕ) (taken : List Taken)
-            → Collects self.now first taken → result ≡ has_taken taken number mb }
+            → Collects self.now first taken → result ≡ is_mb_taken taken number mb }
     {
         self.marks[self.marks_at(self.place_of(number)) + mb as usize]
     }
@@ -149,7 +149,7 @@ impl Collector {
     pub fn any(&self, number: u32) -> bool
         requires { IsInRow self.now number }
         ensures { (first : ℕ) (taken : List Taken)
-            → Collects self.now first taken → result ≡ has_any taken number }
+            → Collects self.now first taken → result ≡ is_any_taken taken number }
     {
         self.headers[self.place_of(number)].is_some()
     }

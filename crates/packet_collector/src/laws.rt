@@ -8,7 +8,7 @@ ghost use Rattle.packet_collector.specs.declared.piece.Piece.{Piece};
 ghost use Rattle.packet_collector.specs.declared.piece.Place.{Place};
 ghost use Rattle.packet_collector.specs.Collected.{Collects, from_number};
 ghost use Rattle.packet_collector.specs.Laws.{PartLaws, FaultLaws};
-ghost use Rattle.packet_collector.specs.Packet.{Slice, IsPacket, packet_at, packet_fault};
+ghost use Rattle.packet_collector.specs.Packet.{PacketSlice, IsPacket, packet_at, packet_fault};
 ghost use Rattle.packet_collector.specs.Rows.{IsPacketFault};
 ghost use Rattle.packet_collector.specs.Taken.{Taken, IsPlace, TakenLaws};
 
@@ -27,10 +27,10 @@ pub(crate) fn part_laws()
 /// Bytes are read as a packet exactly where they are one, and there is no first fault exactly where
 /// they are a packet of some slice.
 pub fn exact_text()
-    ensures read { (format : Format) (s : Slice) (bytes : List ℕ)
+    ensures read { (format : Format) (s : PacketSlice) (bytes : List ℕ)
         → (packet_at format bytes ≡ Ok s) ↔ IsPacket format s bytes }
     ensures no_fault { (format : Format) (bytes : List ℕ)
-        → (packet_fault format bytes ≡ None) ↔ ((s : Slice) × IsPacket format s bytes) }
+        → (packet_fault format bytes ≡ None) ↔ ((s : PacketSlice) × IsPacket format s bytes) }
 {
     part_laws();
 }
@@ -59,8 +59,8 @@ pub fn first_faults()
 /// is no first fault exactly where bytes are a packet of some slice.
 pub fn one_reading()
     ensures no_fault { (format : Format) (bytes : List ℕ)
-        → (packet_fault format bytes ≡ None) ↔ ((s : Slice) × IsPacket format s bytes) }
-    ensures one { (format : Format) (s other : Slice) (bytes : List ℕ)
+        → (packet_fault format bytes ≡ None) ↔ ((s : PacketSlice) × IsPacket format s bytes) }
+    ensures one { (format : Format) (s other : PacketSlice) (bytes : List ℕ)
         → IsPacket format s bytes → IsPacket format other bytes → s ≡ other }
 {
     part_laws();
@@ -68,9 +68,9 @@ pub fn one_reading()
 
 /// What is read is of the expected format, and has a macroblock and none past the picture.
 pub fn read_inside()
-    ensures format { (format : Format) (s : Slice) (bytes : List ℕ) → packet_at format bytes ≡ Ok s
+    ensures format { (format : Format) (s : PacketSlice) (bytes : List ℕ) → packet_at format bytes ≡ Ok s
         → s.header.format ≡ format }
-    ensures inside { (format : Format) (s : Slice) (bytes : List ℕ) → packet_at format bytes ≡ Ok s
+    ensures inside { (format : Format) (s : PacketSlice) (bytes : List ℕ) → packet_at format bytes ≡ Ok s
         → (0 < length s.mbs) × (s.first + length s.mbs ≤ mbs_of format) }
 {
     part_laws();

@@ -5,7 +5,7 @@ ghost use Rattle.h263_types.specs.Sizes.{mbs_of};
 ghost use Rattle.picture_header.specs.Ranges.{IsHeader};
 ghost use Rattle.h263_payload.specs.Ranges.{IsExtraHeader, IsAfterHeader};
 ghost use Rattle.slice_layer.specs.Filled.{AreOthersSame};
-ghost use Rattle.packet_collector.specs.Packet.{Slice, IsPacket, headed_at, slice_after, packet_at, packet_fault};
+ghost use Rattle.packet_collector.specs.Packet.{PacketSlice, IsPacket, headed_at, slice_after, packet_at, packet_fault};
 ghost use Rattle.packet_collector.specs.Filled.{IsExtraOf, FillsPacket, IsPieceIn, slice_in};
 
 use crate::laws;
@@ -72,7 +72,7 @@ pub fn read_packet(bytes: &[u8], format: Format, out: &mut [Mb]) -> Result<Piece
     // What is read is spelled by the bytes.
     ensures found { IfOk result (λ piece. IsPacket format (slice_in piece out.new) bytes.now) }
     // What they spell is read.
-    ensures only { (s : Slice) → IsPacket format s bytes.now →
+    ensures only { (s : PacketSlice) → IsPacket format s bytes.now →
         IsOkAnd result (λ piece. (piece.head.count ≡ length s.mbs) × (slice_in piece out.new ≡ s)) }
     // Otherwise it is the first fault, at its place.
     ensures fault { first_fault result ≡ packet_fault format bytes.now }

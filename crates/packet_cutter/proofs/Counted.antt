@@ -10,15 +10,15 @@ use Rattle.h263_bits.proofs.SyntaxLaws.{length-spelled, length-fields}
 use Rattle.picture_header.specs.declared.header.Header.{Header}
 use Rattle.rtp_header.specs.Written.{rtp_fields}
 use Rattle.h263_payload.specs.Written.{written_payload, payload_bits}
-use Rattle.slice_layer.specs.Written.{slice_text, padded, bytes_of}
+use Rattle.slice_layer.specs.Written.{slice_text, padded, bytes_filled_by}
 use Rattle.packet_cutter.specs.Cut.{begins_at, extra_of, packet_bytes, IsCut}
 use Rattle.packet_cutter.specs.Packets.{timestamp_of, packet_text, packet_of, is_last, ArePackets}
 use Rattle.packet_cutter.proofs.Bytes.{length-bytes_in}
 use Rattle.packet_cutter.proofs.Fronts.{front_whole}
 
-pub length-padded : (text : List Bool) → length (padded text) ≡ 8 * bytes_of text
+pub length-padded : (text : List Bool) → length (padded text) ≡ 8 * bytes_filled_by text
 length-padded text =
-    let whole : 8 * bytes_of text ≡ length text + to_byte (length text) = omega arith in
+    let whole : 8 * bytes_filled_by text ≡ length text + to_byte (length text) = omega arith in
     omega (
       arith,
       length-append text (spelled (to_byte (length text)) 0),

@@ -13,8 +13,8 @@ use Rattle.picture_header.specs.Ranges.{IsHeader}
 use Rattle.macroblock_layer.specs.Written.{mb_text}
 use Rattle.slice_layer.specs.Around.{Around, around, quant_after}
 use Rattle.slice_layer.specs.Written.{opening_text, mbs_text}
-use Rattle.slice_layer.specs.Laws.{AreShort}
-use Rattle.packet_cutter.specs.Cut.{begins_at, packet_bytes, IsLongest, IsCut, joined, Fit}
+use Rattle.slice_layer.specs.Laws.{AreSlicesShort}
+use Rattle.packet_cutter.specs.Cut.{begins_at, packet_bytes, IsLongest, IsCut, runs_joined, Fit}
 use Rattle.packet_cutter.proofs.Fronts.{AllShort, front_short}
 
 -- ---- a longer slice has no shorter packet
@@ -133,7 +133,7 @@ one_cut h limit first mbs (run ∷ runs) (other ∷ others) a b =
 -- ---- its parts
 
 pub covers : (h : Header) (limit first : ℕ) (mbs : List Mb) (runs : List (List Mb)) → IsCut h limit first mbs runs
-    → joined runs ≡ mbs
+    → runs_joined runs ≡ mbs
 unfolding IsCut
 covers h limit first mbs [] a = sym a
 covers h limit first mbs (run ∷ runs) a = ap (λ (l : List Mb). run
@@ -191,7 +191,8 @@ grown h limit first run (m ∷ rest) some fits =
           g.longest;
     }
 
-one_fits : AreShort → AllShort → (h : Header) (limit first : ℕ) (m : Mb) → IsHeader h → 1200 ≤ limit → HasWholeBlocks m
+one_fits : AreSlicesShort → AllShort → (h : Header) (limit first : ℕ) (m : Mb) → IsHeader h → 1200 ≤ limit
+    → HasWholeBlocks m
     → packet_bytes h first (m ∷ []) ≤ limit
 one_fits slices short h limit first m is room whole = omega (
   arith,
@@ -200,7 +201,7 @@ one_fits slices short h limit first m is room whole = omega (
 )
 
 -- a picture whose macroblocks are short can be cut
-pub cut_exists : AreShort → AllShort → (h : Header) (limit : ℕ) → IsHeader h → 1200 ≤ limit
+pub cut_exists : AreSlicesShort → AllShort → (h : Header) (limit : ℕ) → IsHeader h → 1200 ≤ limit
     → (n first : ℕ) (mbs : List Mb) → length mbs ≤ n → All HasWholeBlocks mbs → (runs : List (List Mb))
     × IsCut h limit first mbs runs
 unfolding IsCut

@@ -10,9 +10,10 @@ use Rattle.h263_bits.proofs.SyntaxLaws.{length-bits_of, bits_of-append}
 use Rattle.picture_header.specs.declared.header.Header.{Header}
 use Rattle.rtp_header.specs.Written.{rtp_fields}
 use Rattle.h263_payload.specs.Written.{written_payload}
-use Rattle.slice_layer.specs.Written.{slice_text, padded, bytes_of}
+use Rattle.slice_layer.specs.Written.{slice_text, padded, bytes_filled_by}
 use Rattle.packet_cutter.specs.Cut.{begins_at, extra_of, front_bytes, packet_bytes, IsLongest}
-use Rattle.packet_cutter.specs.Packets.{timestamp_of, packet_text, bytes_in, packet_of, BeginsWith}
+use Rattle.h263_bits.specs.Bytes.{bytes_filled}
+use Rattle.packet_cutter.specs.Packets.{timestamp_of, packet_text, packet_of, BeginsWith}
 use Rattle.packet_cutter.proofs.Bytes.{AreBytes, AreBytes-take, bytes_of_bits}
 use Rattle.packet_cutter.proofs.Cuts.{longest_by_next}
 
@@ -32,8 +33,8 @@ next_is mbs n m others e lt = let d : drop n mbs ≡ get_or mbs n m ∷ drop (su
 
 longest_there : (h : Header) (limit first : ℕ) (mbs : List Mb) (n room : ℕ) → front_bytes h first + room ≡ limit → 0 < n
     → n ≤ length mbs
-    → bytes_of (slice_text h (begins_at first) first (take n mbs)) ≤ room
-    → (n < length mbs → room < bytes_of (slice_text h (begins_at first) first (take (n + 1) mbs)))
+    → bytes_filled_by (slice_text h (begins_at first) first (take n mbs)) ≤ room
+    → (n < length mbs → room < bytes_filled_by (slice_text h (begins_at first) first (take (n + 1) mbs)))
     → IsLongest h limit first (take n mbs) (drop n mbs)
 longest_there h limit first mbs n room parts some few fits full =
     longest_by_next h limit first (take n mbs) (drop n mbs) (omega (arith, length-take-le n mbs few))
@@ -53,14 +54,15 @@ packet_by_bits : (number sequence : ℕ) (marker : Bool) (h : Header) (first : �
     → bytes ≡ packet_of number sequence marker h first run
 unfolding packet_of
 packet_by_bits number sequence marker h first run bytes fit long e = sym (bytes_of_bits bytes fit)
-    ∙ ap (λ (n : ℕ). bytes_in n (bits_of bytes)) long ∙ ap (bytes_in (packet_bytes h first run)) e
+    ∙ ap (λ (n : ℕ). bytes_filled n (bits_of bytes)) long ∙ ap (bytes_filled (packet_bytes h first run)) e
 
 pub packet_begun : (number sequence : ℕ) (h : Header) (limit first : ℕ) (mbs : List Mb) (count size : ℕ)
     (front coded : List ℕ) → sequence < 65536
     → length front ≡ front_bytes h first → front_bytes h first + length coded ≡ limit → 0 < count → count ≤ length mbs
-    → size ≡ bytes_of (slice_text h (begins_at first) first (take count mbs)) → bits_of (take size coded)
+    → size ≡ bytes_filled_by (slice_text h (begins_at first) first (take count mbs)) → bits_of (take size coded)
     ≡ padded (slice_text h (begins_at first) first (take count mbs)) → size ≤ length coded
-    → (count < length mbs → length coded < bytes_of (slice_text h (begins_at first) first (take (count + 1) mbs)))
+    → (count < length mbs → length coded < bytes_filled_by (slice_text h (begins_at first) first
+    (take (count + 1) mbs)))
     → bits_of front ≡ fields (rtp_fields (count == length mbs) sequence (timestamp_of number))
     ++ written_payload (extra_of h (begins_at first))
     → AreBytes (front ++ coded) → BeginsWith number sequence h limit first mbs count (front_bytes h first + size) (front

@@ -13,7 +13,7 @@ use Rattle.rtp_header.specs.Written.{rtp_fields}
 use Rattle.h263_payload.specs.Written.{payload_bits, written_payload}
 use Rattle.slice_layer.specs.Around.{around}
 use Rattle.slice_layer.specs.Head.{address_bits}
-use Rattle.slice_layer.specs.Laws.{AreShort}
+use Rattle.slice_layer.specs.Laws.{AreSlicesShort}
 use Rattle.slice_layer.specs.Written.{mbs_text, opening_text, slice_text}
 use Rattle.packet_cutter.specs.Cut.{begins_at, extra_of, front_bytes, packet_bytes}
 use Rattle.packet_cutter.specs.Packets.{packet_of, packet_text, timestamp_of}
@@ -32,7 +32,7 @@ reference_few None = omega arith
 reference_few (Some n) = omega arith
 
 -- with seven zero bits at the end
-headers_short : AreShort → AllShort → (h : Header) (first : ℕ) → IsHeader h
+headers_short : AreSlicesShort → AllShort → (h : Header) (first : ℕ) → IsHeader h
     → 8 * front_bytes h first + length (opening_text h (begins_at first) first) + 7 ≤ 408
 headers_short slices short h first is = at (begins_at first)
   where
@@ -47,7 +47,7 @@ headers_short slices short h first is = at (begins_at first)
       reference_few h.trp,
     )
 
-packet_short : AreShort → AllShort → (h : Header) (first : ℕ) (run : List Mb) → IsHeader h
+packet_short : AreSlicesShort → AllShort → (h : Header) (first : ℕ) (run : List Mb) → IsHeader h
     → 8 * packet_bytes h first run ≤ 408 + length (mbs_text (around h first) h.quant [] run)
 packet_short slices short h first run is =
     let opening = opening_text h (begins_at first) first in
@@ -69,7 +69,7 @@ few_others before mbs after bits size parts long few = omega (
   length-append mbs after,
 )
 
-pub other_parts : ArePayloadsLong → AreShort → AllShort
+pub other_parts : ArePayloadsLong → AreSlicesShort → AllShort
     → (number sequence : ℕ) (marker : Bool) (h : Header) (first : ℕ) (run : List Mb) → IsHeader h →
     HasShortParts (mbs_text (around h first) h.quant [] run) (bits_of (packet_of number sequence marker h first run))
 other_parts long slices short number sequence marker h first run is =

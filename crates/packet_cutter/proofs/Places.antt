@@ -6,39 +6,39 @@ use Rattle.std.proofs.lemmas.List.{length-append, length-take, length-take-le, l
 use Rattle.std.proofs.Math.ListN.{get_or-append}
 use Rattle.std.proofs.Math.Seq.{get_or-append_seam}
 use Rattle.h263_bits.proofs.SyntaxLaws.{take-take}
-use Rattle.packet_cutter.specs.Taken.{packet_at, packets_in, ArePlaced}
+use Rattle.packet_cutter.specs.Taken.{packet_between, first_packets, ArePlaced}
 
 -- no packet is none
-pub none_in : (bytes places : List ℕ) → packets_in bytes places 0 ≡ []
-unfolding packets_in
+pub none_in : (bytes places : List ℕ) → first_packets bytes places 0 ≡ []
+unfolding first_packets
 none_in bytes places = refl
 
 -- as many packets as were counted
-pub length-packets : (bytes places : List ℕ) (n : ℕ) → length (packets_in bytes places n) ≡ n
-unfolding packets_in
+pub length-packets : (bytes places : List ℕ) (n : ℕ) → length (first_packets bytes places n) ≡ n
+unfolding first_packets
 length-packets bytes places zero = refl
 length-packets bytes places (suc n) = omega (
   arith,
-  length-append (packets_in bytes places n) (packet_at bytes places n ∷ []),
+  length-append (first_packets bytes places n) (packet_between bytes places n ∷ []),
   length-packets bytes places n,
 )
 
-pub packet_is : (bytes places : List ℕ) (n i : ℕ) → i < n → get_or (packets_in bytes places n) i []
-    ≡ packet_at bytes places i
-unfolding packets_in
+pub packet_is : (bytes places : List ℕ) (n i : ℕ) → i < n → get_or (first_packets bytes places n) i []
+    ≡ packet_between bytes places i
+unfolding first_packets
 packet_is bytes places zero i lt = absurd (omega arith)
 packet_is bytes places (suc n) i lt =
     elim (cases_lt i n) [
       | inl below ↦
-          let low : i < length (packets_in bytes places n) = omega (arith, below, length-packets bytes places n) in
-          get_or-append (packets_in bytes places n) (packet_at bytes places n ∷ []) [] i low
+          let low : i < length (first_packets bytes places n) = omega (arith, below, length-packets bytes places n) in
+          get_or-append (first_packets bytes places n) (packet_between bytes places n ∷ []) [] i low
           ∙ packet_is bytes places n i below
       | inr last ↦
-          let e : i ≡ length (packets_in bytes places n) = omega (arith, lt, last, length-packets bytes places n) in
+          let e : i ≡ length (first_packets bytes places n) = omega (arith, lt, last, length-packets bytes places n) in
           let m : n ≡ i = omega (arith, lt, last) in
-          ap (λ (k : ℕ). get_or (packets_in bytes places n ++ packet_at bytes places n ∷ []) k []) e
-          ∙ get_or-append_seam (packets_in bytes places n) (packet_at bytes places n) [] []
-          ∙ ap (packet_at bytes places) m
+          ap (λ (k : ℕ). get_or (first_packets bytes places n ++ packet_between bytes places n ∷ []) k []) e
+          ∙ get_or-append_seam (first_packets bytes places n) (packet_between bytes places n) [] []
+          ∙ ap (packet_between bytes places) m
     ]
 
 -- a window within the first bytes
@@ -57,21 +57,21 @@ pub same_packets : (old new places others : List ℕ) (n at : ℕ) → at ≤ le
     → ((i : ℕ) → i ≤ n → get_or others i 0 ≡ get_or places i 0)
     → ((i : ℕ) → i < n → get_or places i 0 ≤ get_or places (i + 1) 0)
     → ((i : ℕ) → i < n → get_or places (i + 1) 0 ≤ at)
-    → packets_in new others n ≡ packets_in old places n
-unfolding packets_in
+    → first_packets new others n ≡ first_packets old places n
+unfolding first_packets
 same_packets old new places others zero at low high same there order within = refl
 same_packets old new places others (suc n) at low high same there order within =
     let before = same_packets old new places others n at low high same (λ i le. there i (omega arith))
     (λ i lt. order i (omega arith)) (λ i lt. within i (omega arith)) in
     let from : get_or others n 0 ≡ get_or places n 0 = there n (omega arith) in
     let to : get_or others (n + 1) 0 ≡ get_or places (n + 1) 0 = there (n + 1) (omega arith) in
-    let one : packet_at new others n ≡ packet_at old places n =
+    let one : packet_between new others n ≡ packet_between old places n =
     ap (λ (k : ℕ). slice_range new k (get_or others (n + 1) 0)) from
     ∙ ap (λ (k : ℕ). slice_range new (get_or places n 0) k) to
     ∙ window_same old new (get_or places n 0) (get_or places (n + 1) 0) at (order n (omega arith))
     (within n (omega arith)) low high same in
-    ap (λ (l : List (List ℕ)). l ++ packet_at new others n ∷ []) before
-    ∙ ap (λ (p : List ℕ). packets_in old places n ++ p ∷ []) one
+    ap (λ (l : List (List ℕ)). l ++ packet_between new others n ∷ []) before
+    ∙ ap (λ (p : List ℕ). first_packets old places n ++ p ∷ []) one
 
 -- ---- one packet more
 
@@ -85,9 +85,9 @@ new_place places n end lt = get_or-set_same places (n + 1) end 0 lt
 pub one_more : (old new places : List ℕ) (limit n size : ℕ) → ArePlaced limit places n → n < 396
     → get_or places n 0 ≤ length old → get_or places n 0 ≤ length new
     → take (get_or places n 0) new ≡ take (get_or places n 0) old
-    → packets_in new (set places (n + 1) (get_or places n 0 + size)) (n + 1) ≡ packets_in old places n
+    → first_packets new (set places (n + 1) (get_or places n 0 + size)) (n + 1) ≡ first_packets old places n
     ++ take size (drop (get_or places n 0) new) ∷ []
-unfolding packets_in
+unfolding first_packets
 one_more old new places limit n size p room low high same =
     let at = get_or places n 0 in
     let others = set places (n + 1) (at + size) in
@@ -96,11 +96,11 @@ one_more old new places limit n size p room low high same =
     let from : get_or others n 0 ≡ at = other_place places n (at + size) n (omega arith) in
     let to : get_or others (n + 1) 0 ≡ at + size = new_place places n (at + size) (omega (arith, p.whole)) in
     let long : at + size - at ≡ size = omega arith in
-    let one : packet_at new others n ≡ take size (drop at new) =
+    let one : packet_between new others n ≡ take size (drop at new) =
     ap (λ (k : ℕ). slice_range new k (get_or others (n + 1) 0)) from ∙ ap (λ (k : ℕ). slice_range new at k) to
     ∙ ap (λ (k : ℕ). take k (drop at new)) long in
-    ap (packets_in new others) (add-one n) ∙ ap (λ (l : List (List ℕ)). l ++ packet_at new others n ∷ []) before
-    ∙ ap (λ (t : List ℕ). packets_in old places n ++ t ∷ []) one
+    ap (first_packets new others) (add-one n) ∙ ap (λ (l : List (List ℕ)). l ++ packet_between new others n ∷ []) before
+    ∙ ap (λ (t : List ℕ). first_packets old places n ++ t ∷ []) one
 
 pub window_length : (xs : List ℕ) (at k : ℕ) → at + k ≤ length xs → length (take (at + k - at) (drop at xs)) ≡ k
 window_length xs at k h = omega (arith, length-take (at + k - at) (drop at xs), length-drop at xs)
@@ -108,8 +108,8 @@ window_length xs at k h = omega (arith, length-take (at + k - at) (drop at xs), 
 -- the next packet was written after the others, in a part of the bytes
 pub appended : (old d ys post places : List ℕ) (limit n size : ℕ) → d ≡ old → ArePlaced limit places n → n < 396
     → get_or places n 0 ≤ length old → size ≤ length ys
-    → packets_in (take (get_or places n 0) d ++ (ys ++ post)) (set places (n + 1) (get_or places n 0 + size)) (n + 1)
-    ≡ packets_in old places n ++ take size ys ∷ []
+    → first_packets (take (get_or places n 0) d ++ (ys ++ post)) (set places (n + 1) (get_or places n 0 + size)) (n + 1)
+    ≡ first_packets old places n ++ take size ys ∷ []
 appended old d ys post places limit n size same p few within fits =
     let at = get_or places n 0 in
     let front = take at d in
@@ -120,4 +120,4 @@ appended old d ys post places limit n size same p few within fits =
     let after : take size (drop at new) ≡ take size ys = ap (take size) (drop_at front (ys ++ post) at len)
     ∙ take-append-le size ys post fits in
     one_more old new places limit n size p few within high kept
-    ∙ ap (λ (l : List ℕ). packets_in old places n ++ l ∷ []) after
+    ∙ ap (λ (l : List ℕ). first_packets old places n ++ l ∷ []) after

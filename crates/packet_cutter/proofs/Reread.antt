@@ -17,12 +17,12 @@ use Rattle.rtp_header.specs.declared.rtp.Rtp.{Rtp}
 use Rattle.rtp_header.specs.Faults.{rtp_in}
 use Rattle.rtp_header.specs.Written.{rtp_fields, written_rtp}
 use Rattle.h263_payload.specs.declared.payload.Payload.{Payload}
-use Rattle.h263_payload.specs.Text.{IsBegun}
+use Rattle.h263_payload.specs.Text.{IsStartCodeRest}
 use Rattle.h263_payload.specs.Faults.{payload_at}
 use Rattle.h263_payload.specs.Written.{written_payload}
 use Rattle.slice_layer.specs.Around.{around}
-use Rattle.slice_layer.specs.Written.{head_text, opening_text, mbs_text, slice_text, padded, AreWritable}
-use Rattle.slice_layer.specs.Laws.{AreSpelt}
+use Rattle.slice_layer.specs.Written.{slice_head_text, opening_text, mbs_text, slice_text, padded, AreWritable}
+use Rattle.slice_layer.specs.Laws.{AreSlicesSpelt}
 use Rattle.packet_cutter.specs.Cut.{begins_at, extra_of, front_bytes}
 use Rattle.packet_cutter.specs.Packets.{timestamp_of, packet_text}
 use Rattle.h263_payload.specs.Headed.{IsHeaded}
@@ -45,7 +45,7 @@ pub record AreReadAgain : Type 0 where
       → payload_at h.format (record { at = at; bits = written_payload (Some h) ++ true ∷ true ∷ rest })
       ≡ Ok (record { extra = Some h; begins = false; from = at + length (written_payload (Some h)) })
   pub many : ArePayloadsLong
-  pub slices : AreSpelt
+  pub slices : AreSlicesSpelt
 
 -- ---- windows of bytes whose bits are known
 
@@ -89,13 +89,13 @@ rtp_again below number sequence marker bytes rest e short =
 -- ---- the payload's header
 
 started : (h : Header) (begins : Bool) (first : ℕ) (run : List Mb)
-    → IsBegun begins (padded (slice_text h begins first run))
+    → IsStartCodeRest begins (padded (slice_text h begins first run))
 unfolding spelled
 started h true first run = (drop 2 (padded (slice_text h true first run)), refl)
 started h false first run = (drop 2 (padded (slice_text h false first run)), refl)
 
 payload_again : AreReadAgain → (h : Header) (begins : Bool) (at : ℕ) (coded : List Bool) → IsHeader h
-    → IsBegun begins coded
+    → IsStartCodeRest begins coded
     → payload_at h.format (record { at = at; bits = written_payload (extra_of h begins) ++ coded })
     ≡ Ok (record {
       extra = extra_of h begins;
@@ -121,12 +121,12 @@ headed laws h true is = laws.spelt h is
 headed laws h false is = (refl, refl)
 
 divided : (h : Header) (begins : Bool) (first : ℕ) (texts zeros : List Bool) → (opening_text h begins first ++ texts)
-    ++ zeros ≡ header_part h begins ++ (head_text h begins first ++ (texts ++ zeros))
-divided h true first texts zeros = regroup (written_header h) (head_text h true first) texts zeros
+    ++ zeros ≡ header_part h begins ++ (slice_head_text h begins first ++ (texts ++ zeros))
+divided h true first texts zeros = regroup (written_header h) (slice_head_text h true first) texts zeros
   where
     regroup : (a b c d : List Bool) → ((a ++ b) ++ c) ++ d ≡ a ++ (b ++ (c ++ d))
     regroup a b c d = simp append_assoc
-divided h false first texts zeros = append_assoc (head_text h false first) texts zeros
+divided h false first texts zeros = append_assoc (slice_head_text h false first) texts zeros
 
 pub read_as : AreReadAgain → (number sequence : ℕ) (marker : Bool) (h : Header) (first : ℕ) (run : List Mb)
     (bytes : List ℕ) → IsHeader h → 0 < length run → first + length run ≤ mbs_of h.format
@@ -150,7 +150,7 @@ read_as below number sequence marker h first run bytes is some within each e sho
     ∙ sym (append_assoc rtp payload coded)) (omega (arith, length-append rtp payload, len, from)) in
     record {
       front = header_part h begins;
-      after = head_text h begins first ++ (texts ++ zeros);
+      after = slice_head_text h begins first ++ (texts ++ zeros);
       rtp = rtp_again below number sequence marker bytes (payload ++ coded) e short;
       payload = ap (payload_at h.format) there ∙ payload_again below h begins 96 coded is (started h begins first run)
           ∙ ap (λ (n : ℕ). ok_payload (record { extra = extra_of h begins; begins = begins; from = n })) from;

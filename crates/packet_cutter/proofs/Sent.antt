@@ -12,8 +12,9 @@ use Rattle.rtp_header.specs.Written.{rtp_fields}
 use Rattle.h263_payload.specs.Written.{written_payload}
 use Rattle.slice_layer.specs.Written.{slice_text, padded}
 use Rattle.packet_cutter.specs.Cut.{begins_at, extra_of, packet_bytes, IsCut, Fit}
-use Rattle.packet_cutter.specs.Slices.{longest_of, slices_from, cut_of, slices_at}
-use Rattle.packet_cutter.specs.Packets.{timestamp_of, packet_text, bytes_in, packet_of, is_last, packets_of, ArePackets, ArePacketsOf}
+use Rattle.packet_cutter.specs.Slices.{longest_of, slices_from, cut_of, runs_as_slices}
+use Rattle.h263_bits.specs.Bytes.{bytes_filled}
+use Rattle.packet_cutter.specs.Packets.{timestamp_of, packet_text, packet_of, is_last, packets_of, ArePackets, ArePacketsOf}
 use Rattle.packet_cutter.proofs.Bytes.{bits_of_bytes}
 use Rattle.packet_cutter.proofs.Counted.{ArePayloadsLong, length-packet}
 use Rattle.packet_cutter.proofs.Sliced.{longest_is}
@@ -23,7 +24,7 @@ use Rattle.packet_cutter.proofs.Sliced.{longest_is}
 -- slices are those of the function where they are a cut
 pub cut_is : GreatestIs → (most : ℕ) (h : Header) (limit first : ℕ) (mbs : List Mb) (runs : List (List Mb))
     → length mbs ≤ most → IsCut h limit first mbs runs
-    → slices_at first runs ≡ slices_from most (packet_bytes h) limit first mbs
+    → runs_as_slices first runs ≡ slices_from most (packet_bytes h) limit first mbs
 unfolding IsCut slices_from
 cut_is found zero h limit first [] [] few cut = refl
 cut_is found (suc most) h limit first [] [] few cut = refl
@@ -50,29 +51,30 @@ cut_is found (suc most) h limit first (m ∷ mbs) (run ∷ runs) few cut =
 
 -- ---- the packets
 
-same_last : (first : ℕ) (runs : List (List Mb)) → is_last (slices_at first runs) ≡ is_last runs
+same_last : (first : ℕ) (runs : List (List Mb)) → is_last (runs_as_slices first runs) ≡ is_last runs
 same_last first [] = refl
 same_last first (run ∷ runs) = refl
 
 pub packets_are : (number sequence : ℕ) (h : Header) (first : ℕ) (runs : List (List Mb)) (packets : List (List ℕ))
     → ArePackets number sequence h first runs packets
-    → packets ≡ packets_of number sequence h (slices_at first runs)
+    → packets ≡ packets_of number sequence h (runs_as_slices first runs)
 unfolding ArePackets packets_of
 packets_are number sequence h first [] packets each = each
 packets_are number sequence h first (run ∷ runs) packets each =
     let after = packets_are number (sequence + 1) h (first + length run) runs each.1 each.4 in
     each.2 ∙ ap (λ (p : List ℕ). p ∷ each.1) (each.3
     ∙ ap (λ (b : Bool). packet_of number sequence b h first run) (sym (same_last (first + length run) runs)))
-    ∙ ap (λ (l : List (List ℕ)). packet_of number sequence (is_last (slices_at (first + length run) runs)) h first run ∷
+    ∙ ap (λ (l : List (List ℕ)). packet_of number sequence (is_last (runs_as_slices (first + length run) runs)) h first
+    run ∷
     l) after
 
 pub are_packets : (number sequence : ℕ) (h : Header) (first : ℕ) (runs : List (List Mb))
-    → ArePackets number sequence h first runs (packets_of number sequence h (slices_at first runs))
+    → ArePackets number sequence h first runs (packets_of number sequence h (runs_as_slices first runs))
 unfolding ArePackets packets_of
 are_packets number sequence h first [] = refl
 are_packets number sequence h first (run ∷ runs) = (
-  packet_of number sequence (is_last (slices_at (first + length run) runs)) h first run,
-  packets_of number (sequence + 1) h (slices_at (first + length run) runs),
+  packet_of number sequence (is_last (runs_as_slices (first + length run) runs)) h first run,
+  packets_of number (sequence + 1) h (runs_as_slices (first + length run) runs),
   refl,
   ap (λ (b : Bool). packet_of number sequence b h first run) (same_last (first + length run) runs),
   are_packets number (sequence + 1) h (first + length run) runs,
@@ -153,7 +155,7 @@ pub same_packet : (number s t : ℕ) (marker : Bool) (h : Header) (first : ℕ) 
     → packet_of number s marker h first run ≡ packet_of number t marker h first run
 unfolding packet_of
 same_packet number s t marker h first run e =
-    ap (λ (n : ℕ). bytes_in (packet_bytes h first run) (fields (rtp_fields marker n (timestamp_of number))
+    ap (λ (n : ℕ). bytes_filled (packet_bytes h first run) (fields (rtp_fields marker n (timestamp_of number))
     ++ (written_payload (extra_of h (begins_at first)) ++ padded (slice_text h (begins_at first) first run)))) e
 
 pub same_packets : (number s t : ℕ) (h : Header) (slices : List (Slice Mb)) → s % 65536 ≡ t % 65536
@@ -184,7 +186,7 @@ packet_bits many number sequence marker h first run =
 -- ---- each slice fits
 
 pub slice_fits : (h : Header) (limit first : ℕ) (runs : List (List Mb)) (j : ℕ) (slice : Slice Mb)
-    → Fit h limit first runs → slice_get (slices_at first runs) j ≡ Some slice
+    → Fit h limit first runs → slice_get (runs_as_slices first runs) j ≡ Some slice
     → packet_bytes h slice.first slice.mbs ≤ limit
 unfolding Fit
 slice_fits h limit first [] j slice fit e = absurd cc

@@ -11,8 +11,8 @@ use Rattle.picture_header.specs.Written.{reference_bits}
 use Rattle.h263_payload.specs.Written.{payload_bits}
 use Rattle.slice_layer.specs.Around.{around}
 use Rattle.slice_layer.specs.Head.{address_bits}
-use Rattle.slice_layer.specs.Written.{opening_text, mbs_text, slice_text, bytes_of}
-use Rattle.slice_layer.specs.Laws.{AreShort}
+use Rattle.slice_layer.specs.Written.{opening_text, mbs_text, slice_text, bytes_filled_by}
+use Rattle.slice_layer.specs.Laws.{AreSlicesShort}
 use Rattle.packet_cutter.specs.Cut.{begins_at, extra_of, front_bytes, packet_bytes, IsLongest, IsCut}
 use Rattle.packet_cutter.specs.Slices.{slices_from, cut_of}
 use Rattle.packet_cutter.specs.Forms.{HaveOneForm}
@@ -28,7 +28,7 @@ same_payload : (h g : Header) (begins : Bool) → HaveOneForm h g → payload_bi
 same_payload h g true s = refl
 same_payload h g false s = ap (λ (n : ℕ). 16 + 8 * ((n + to_byte n) / 8)) s.bits
 
-same_opening : AreShort → (h g : Header) (begins : Bool) (first : ℕ) → HaveOneForm h g
+same_opening : AreSlicesShort → (h g : Header) (begins : Bool) (first : ℕ) → HaveOneForm h g
     → length (opening_text h begins first) ≡ length (opening_text g begins first)
 same_opening laws h g true first s = omega (
   arith,
@@ -53,7 +53,8 @@ same_text h g first run s =
     ap (λ (k : Kind). text k h.format h.quant) s.kind ∙ ap (λ (f : Format). text g.kind f h.quant) s.format
     ∙ ap (λ (q : ℕ). text g.kind g.format q) s.quant
 
-pub same_packet : AreShort → (h g : Header) (first : ℕ) (run : List Mb) → HaveOneForm h g → packet_bytes h first run
+pub same_packet : AreSlicesShort → (h g : Header) (first : ℕ) (run : List Mb) → HaveOneForm h g
+    → packet_bytes h first run
     ≡ packet_bytes g first run
 same_packet laws h g first run s =
     let mine : length (slice_text h (begins_at first) first run) ≡ length (slice_text g (begins_at first) first run) =
@@ -64,10 +65,10 @@ same_packet laws h g first run s =
       same_opening laws h g (begins_at first) first s,
       ap length (same_text h g first run s),
     ) in
-    ap (λ (n : ℕ). 12 + n / 8 + bytes_of (slice_text h (begins_at first) first run))
+    ap (λ (n : ℕ). 12 + n / 8 + bytes_filled_by (slice_text h (begins_at first) first run))
     (same_payload h g (begins_at first) s) ∙ ap (λ (n : ℕ). front_bytes g first + (n + to_byte n) / 8) mine
 
-same_longest : AreShort → (h g : Header) (limit first : ℕ) (run rest : List Mb) → HaveOneForm h g
+same_longest : AreSlicesShort → (h g : Header) (limit first : ℕ) (run rest : List Mb) → HaveOneForm h g
     → IsLongest h limit first run rest → IsLongest g limit first run rest
 same_longest laws h g limit first run rest s a = record {
   some = a.some;
@@ -76,7 +77,8 @@ same_longest laws h g limit first run rest s a = record {
       (a.longest more others e some);
 }
 
-pub by_style : AreShort → (h g : Header) (limit first : ℕ) (mbs : List Mb) (runs : List (List Mb)) → HaveOneForm h g
+pub by_style : AreSlicesShort → (h g : Header) (limit first : ℕ) (mbs : List Mb) (runs : List (List Mb))
+    → HaveOneForm h g
     → IsCut h limit first mbs runs → IsCut g limit first mbs runs
 unfolding IsCut
 by_style laws h g limit first mbs [] s a = a
@@ -87,7 +89,7 @@ by_style laws h g limit first mbs (run ∷ runs) s a = (
   by_style laws h g limit (first + length run) a.0 runs s a.3,
 )
 
-pub cut_by_style : AreShort → (h g : Header) (limit : ℕ) (mbs : List Mb) → HaveOneForm h g
+pub cut_by_style : AreSlicesShort → (h g : Header) (limit : ℕ) (mbs : List Mb) → HaveOneForm h g
     → cut_of h limit mbs ≡ cut_of g limit mbs
 cut_by_style laws h g limit mbs s =
     let same : packet_bytes h ≡ packet_bytes g = λ i. λ first run. same_packet laws h g first run s i in

@@ -3,7 +3,7 @@ use Rattle.std.specs.Prelude.{◌≡◌, ℕ, ◌+◌, ◌/◌, ◌<◌, ◌≤�
 use Rattle.h263_types.specs.declared.blocks.Mb.{Mb}
 use Rattle.picture_header.specs.declared.header.Header.{Header}
 use Rattle.h263_payload.specs.Written.{payload_bits}
-use Rattle.slice_layer.specs.Written.{slice_text, bytes_of}
+use Rattle.slice_layer.specs.Written.{slice_text, bytes_filled_by}
 
 -- a slice with the picture's first macroblock stands after the picture header; any other has it as the extra one
 abbrev pub begins_at : ℕ → Bool
@@ -19,7 +19,7 @@ front_bytes h first = 12 + payload_bits (extra_of h (begins_at first)) / 8
 
 -- the bytes of the packet with a slice from macroblock `first` on
 abbrev pub packet_bytes : Header → ℕ → List Mb → ℕ
-packet_bytes h first mbs = front_bytes h first + bytes_of (slice_text h (begins_at first) first mbs)
+packet_bytes h first mbs = front_bytes h first + bytes_filled_by (slice_text h (begins_at first) first mbs)
 
 -- a slice of the macroblocks from number `first` on is the longest whose packet has at most `limit` bytes
 pub record IsLongest (h : Header) (limit first : ℕ) (run rest : List Mb) : Type 0 where
@@ -36,9 +36,9 @@ IsCut h limit first mbs (run ∷ runs) =
     × IsLongest h limit first run rest × IsCut h limit (first + length run) rest runs
 
 -- the macroblocks of slices, one slice after the other
-abbrev pub joined : List (List Mb) → List Mb
-joined [] = []
-joined (run ∷ runs) = run ++ joined runs
+abbrev pub runs_joined : List (List Mb) → List Mb
+runs_joined [] = []
+runs_joined (run ∷ runs) = run ++ runs_joined runs
 
 -- slices, the first of which begins with macroblock `first`: none is empty, and each keeps its packet within the limit
 unfoldable pub Fit : Header → ℕ → ℕ → List (List Mb) → Type 0

@@ -6,24 +6,24 @@ use Rattle.picture_header.specs.declared.header.Header.{Header}
 use Rattle.packet_cutter.specs.declared.packets.Packets.{Packets}
 use Rattle.packet_cutter.specs.Cut.{IsLongest}
 use Rattle.packet_cutter.specs.Packets.{packet_of}
-use Rattle.packet_cutter.specs.Taken.{packets_in}
+use Rattle.packet_cutter.specs.Taken.{first_packets}
 
 -- the most bytes of a packet
 abbrev pub most_bytes : Packets → ℕ
 most_bytes p = p.limit
 
 -- the bytes that were taken for packets
-abbrev pub room_of : Packets → ℕ
-room_of p = length (boxed_slice_items p.bytes)
+abbrev pub room_for_packets : Packets → ℕ
+room_for_packets p = length (boxed_slice_items p.bytes)
 
-abbrev pub count_of : Packets → ℕ
-count_of p = p.count
+abbrev pub packet_count : Packets → ℕ
+packet_count p = p.count
 
 abbrev pub kept_packets : Packets → List (List ℕ)
-kept_packets p = packets_in (boxed_slice_items p.bytes) p.places p.count
+kept_packets p = first_packets (boxed_slice_items p.bytes) p.places p.count
 
 -- the packet of the first `count` of the macroblocks that are left, in the longest slice, was put after the others
-pub record Appends (old new : Packets)
+pub record AppendsPacket (old new : Packets)
     (number sequence : ℕ) (h : Header) (first : ℕ) (mbs : List Mb) (count : ℕ) : Type 0 where
   pub packet : List ℕ
   pub packets : kept_packets new ≡ kept_packets old ++ packet ∷ []

@@ -8,6 +8,7 @@ use Rattle.rtp_header.specs.Written.{rtp_fields}
 use Rattle.h263_payload.specs.Written.{written_payload}
 use Rattle.slice_layer.specs.Written.{slice_text, padded}
 use Rattle.packet_cutter.specs.Cut.{begins_at, extra_of, packet_bytes, IsLongest, IsCut}
+use Rattle.h263_bits.specs.Bytes.{bytes_filled}
 
 -- the time of picture n on the clock of 90 kHz, with 30000/1001 pictures a second
 abbrev pub timestamp_of : ℕ → ℕ
@@ -19,15 +20,10 @@ packet_text number sequence marker h first run =
     fields (rtp_fields marker (sequence % 65536) (timestamp_of number))
     ++ (written_payload (extra_of h (begins_at first)) ++ padded (slice_text h (begins_at first) first run))
 
--- the first `count` bytes that bits fill
-unfoldable pub bytes_in : ℕ → List Bool → List ℕ
-bytes_in zero bits = []
-bytes_in (suc count) bits = number (take 8 bits) ∷ bytes_in count (drop 8 bits)
-
 -- its bytes
 unfoldable pub packet_of : ℕ → ℕ → Bool → Header → ℕ → List Mb → List ℕ
 packet_of number sequence marker h first run =
-    bytes_in (packet_bytes h first run) (packet_text number sequence marker h first run)
+    bytes_filled (packet_bytes h first run) (packet_text number sequence marker h first run)
 
 abbrev pub is_last : {Run : Type 0} → List Run → Bool
 is_last [] = true

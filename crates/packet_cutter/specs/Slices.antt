@@ -28,6 +28,6 @@ abbrev pub cut_of : Header → ℕ → List Mb → List (Slice Mb)
 cut_of h limit mbs = slices_from (length mbs) (packet_bytes h) limit 0 mbs
 
 -- slices by their macroblocks, where the first one begins with macroblock `first`
-abbrev pub slices_at : ℕ → List (List Mb) → List (Slice Mb)
-slices_at first [] = []
-slices_at first (run ∷ runs) = record { first = first; mbs = run } ∷ slices_at (first + length run) runs
+abbrev pub runs_as_slices : ℕ → List (List Mb) → List (Slice Mb)
+runs_as_slices first [] = []
+runs_as_slices first (run ∷ runs) = record { first = first; mbs = run } ∷ runs_as_slices (first + length run) runs

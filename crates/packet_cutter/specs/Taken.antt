@@ -18,13 +18,13 @@ abbrev pub unmarked : List MarkedMb → List Mb
 unmarked mbs = map (λ (m : MarkedMb). m.mb) mbs
 
 -- packet i, where each begins at its place and ends at the next one
-abbrev pub packet_at : List ℕ → List ℕ → ℕ → List ℕ
-packet_at bytes places i = slice_range bytes (slice_index places i) (slice_index places (i + 1))
+abbrev pub packet_between : List ℕ → List ℕ → ℕ → List ℕ
+packet_between bytes places i = slice_range bytes (slice_index places i) (slice_index places (i + 1))
 
 -- the first packets, this many
-unfoldable pub packets_in : List ℕ → List ℕ → ℕ → List (List ℕ)
-packets_in bytes places zero = []
-packets_in bytes places (suc n) = packets_in bytes places n ++ packet_at bytes places n ∷ []
+unfoldable pub first_packets : List ℕ → List ℕ → ℕ → List (List ℕ)
+first_packets bytes places zero = []
+first_packets bytes places (suc n) = first_packets bytes places n ++ packet_between bytes places n ∷ []
 
 -- the places stand in order, and this many packets end within as many times the limit
 pub record ArePlaced (limit : ℕ) (places : List ℕ) (count : ℕ) : Type 0 where

@@ -8,7 +8,7 @@ ghost use Rattle.h263_types.specs.Sizes.{mbs_of};
 ghost use Rattle.picture_header.specs.declared.header.Header.{Header};
 ghost use Rattle.picture_header.specs.Ranges.{IsHeader};
 ghost use Rattle.h263_types.specs.Marks.{IsMarked};
-ghost use Rattle.packet_cutter.specs.Kept.{most_bytes, room_of, kept_packets};
+ghost use Rattle.packet_cutter.specs.Kept.{most_bytes, room_for_packets, kept_packets};
 ghost use Rattle.packet_cutter.specs.Packets as sent;
 ghost use Rattle.packet_cutter.specs.Packets.{ArePacketsOf};
 ghost use Rattle.packet_cutter.specs.Slices.{cut_of};
@@ -23,14 +23,14 @@ use std::boxed::BoxedSlice;
 
 // Cuts a picture: packet after packet.
 fn cut(packets: &mut Packets, header: &Header, mbs: &[MarkedMb], number: u32, sequence: u16)
-    requires room { most_bytes packets.old * length mbs.now ≤ room_of packets.old }
+    requires room { most_bytes packets.old * length mbs.now ≤ room_for_packets packets.old }
     requires header { IsHeader header.now }
     requires whole { length mbs.now ≡ mbs_of header.now.format }
     requires each { All (IsTaken header.now.kind header.now.quant) mbs.now }
     ensures packets { ArePacketsOf number sequence header.now
         (most_bytes packets.old) (unmarked mbs.now) (kept_packets packets.new) }
     ensures limit { most_bytes packets.new ≡ most_bytes packets.old }
-    ensures room { room_of packets.new ≡ room_of packets.old }
+    ensures room { room_for_packets packets.new ≡ room_for_packets packets.old }
 {
     packets.clear();
     let mut first = 0;
@@ -55,7 +55,7 @@ pub struct Cutter {
     packets: Packets,
     ghost whole: { length (boxed_slice_items mbs) ≡ mbs_of header.format },
     ghost within: { added ≤ length (boxed_slice_items mbs) },
-    ghost room: { most_bytes packets * length (boxed_slice_items mbs) ≤ room_of packets },
+    ghost room: { most_bytes packets * length (boxed_slice_items mbs) ≤ room_for_packets packets },
 }
 
 // Puts a macroblock in the place of another.
@@ -79,14 +79,14 @@ fn put_plain(place: &mut Mb, mb: &Mb)
 }
 
 impl Cutter {
-    ghost use Rattle.packet_cutter.specs.Cutting.{format_of, limit_of, kind_of, quant_of, added_of, sequence_of, packets_of, OnlyAdds, IsBegun, Holds};
+    ghost use Rattle.packet_cutter.specs.Cutting.{cut_format, limit_of, cutter_kind, cutter_quant, added_of, sequence_of, cutter_packets, OnlyAdds, IsPictureBegun, HoldsMbs};
 
     /// A cutter of pictures of the parameters' format into packets of `limit` bytes at most.
     pub fn start(alloc: Global, params: &Params) -> Result<Cutter, OutOfMemory>
         requires { IsParams params.now }
-        ensures format { IfOk result (λ c. format_of c ≡ params.now.format) }
+        ensures format { IfOk result (λ c. cut_format c ≡ params.now.format) }
         ensures limit { IfOk result (λ c. limit_of c ≡ params.now.limit) }
-        ensures none { IfOk result (λ c. packets_of c ≡ []) }
+        ensures none { IfOk result (λ c. cutter_packets c ≡ []) }
         ensures sequence { IfOk result (λ c. sequence_of c ≡ 0) }
         ensures added { IfOk result (λ c. added_of c ≡ 0) }
     {
@@ -105,16 +105,16 @@ impl Cutter {
     /// finished is dropped.
     pub fn begin(&mut self, number: u32, header: &Header)
         requires header { IsHeader header.now }
-        requires format { header.now.format ≡ format_of self.old }
-        ensures begun { IsBegun self.new }
-        ensures holds { Holds self.new number header.now [] }
+        requires format { header.now.format ≡ cut_format self.old }
+        ensures begun { IsPictureBegun self.new }
+        ensures holds { HoldsMbs self.new number header.now [] }
         ensures added { added_of self.new ≡ 0 }
-        ensures kind { kind_of self.new ≡ header.now.kind }
-        ensures quant { quant_of self.new ≡ header.now.quant }
-        ensures format { format_of self.new ≡ format_of self.old }
+        ensures kind { cutter_kind self.new ≡ header.now.kind }
+        ensures quant { cutter_quant self.new ≡ header.now.quant }
+        ensures format { cut_format self.new ≡ cut_format self.old }
         ensures limit { limit_of self.new ≡ limit_of self.old }
         ensures sequence { sequence_of self.new ≡ sequence_of self.old }
-        ensures packets { packets_of self.new ≡ packets_of self.old }
+        ensures packets { cutter_packets self.new ≡ cutter_packets self.old }
     {
         self.added = 0;
         self.number = number;
@@ -123,14 +123,14 @@ impl Cutter {
 
     /// Adds the picture's next macroblock.
     pub fn add(&mut self, mb: &Mb)
-        requires begun { IsBegun self.old }
+        requires begun { IsPictureBegun self.old }
         requires mb { IsMb mb.now }
-        requires kind { IsOfKind (kind_of self.old) mb.now }
-        requires quant { HasQuant (quant_of self.old) mb.now }
-        requires left { added_of self.old < mbs_of (format_of self.old) }
-        ensures begun { IsBegun self.new }
+        requires kind { IsOfKind (cutter_kind self.old) mb.now }
+        requires quant { HasQuant (cutter_quant self.old) mb.now }
+        requires left { added_of self.old < mbs_of (cut_format self.old) }
+        ensures begun { IsPictureBegun self.new }
         ensures holds { (number : ℕ) (h : Header) (mbs : List Mb)
-            → Holds self.old number h mbs → Holds self.new number h (mbs ++ mb.now ∷ []) }
+            → HoldsMbs self.old number h mbs → HoldsMbs self.new number h (mbs ++ mb.now ∷ []) }
         ensures added { added_of self.new ≡ added_of self.old + 1 }
         ensures rest { OnlyAdds self.old self.new }
     {
@@ -140,15 +140,15 @@ impl Cutter {
     /// The same as [`add`](Cutter::add), of a macroblock that has its marks beside it: so they
     /// aren't found again.
     pub fn add_marked(&mut self, mb: &MarkedMb)
-        requires begun { IsBegun self.old }
+        requires begun { IsPictureBegun self.old }
         requires mb { IsMb mb.now.mb }
         requires marks { IsMarked mb.now }
-        requires kind { IsOfKind (kind_of self.old) mb.now.mb }
-        requires quant { HasQuant (quant_of self.old) mb.now.mb }
-        requires left { added_of self.old < mbs_of (format_of self.old) }
-        ensures begun { IsBegun self.new }
+        requires kind { IsOfKind (cutter_kind self.old) mb.now.mb }
+        requires quant { HasQuant (cutter_quant self.old) mb.now.mb }
+        requires left { added_of self.old < mbs_of (cut_format self.old) }
+        ensures begun { IsPictureBegun self.new }
         ensures holds { (number : ℕ) (h : Header) (mbs : List Mb)
-            → Holds self.old number h mbs → Holds self.new number h (mbs ++ mb.now.mb ∷ []) }
+            → HoldsMbs self.old number h mbs → HoldsMbs self.new number h (mbs ++ mb.now.mb ∷ []) }
         ensures added { added_of self.new ≡ added_of self.old + 1 }
         ensures rest { OnlyAdds self.old self.new }
     {
@@ -159,22 +159,22 @@ impl Cutter {
     /// Cuts the picture, all of whose macroblocks were added, into its packets, which take the
     /// place of the earlier ones.
     pub fn finish(&mut self)
-        requires begun { IsBegun self.old }
-        requires all { added_of self.old ≡ mbs_of (format_of self.old) }
+        requires begun { IsPictureBegun self.old }
+        requires all { added_of self.old ≡ mbs_of (cut_format self.old) }
         ensures packets { (number : ℕ) (h : Header) (mbs : List Mb)
-            → Holds self.old number h mbs → ArePacketsOf number
-            (sequence_of self.old) h (limit_of self.old) mbs (packets_of self.new) }
+            → HoldsMbs self.old number h mbs → ArePacketsOf number
+            (sequence_of self.old) h (limit_of self.old) mbs (cutter_packets self.new) }
         // As functions of the picture.
-        ensures function { (number : ℕ) (h : Header) (mbs : List Mb) → Holds self.old number h mbs
-            → packets_of self.new
+        ensures function { (number : ℕ) (h : Header) (mbs : List Mb) → HoldsMbs self.old number h mbs
+            → cutter_packets self.new
             ≡ sent.packets_of number (sequence_of self.old) h (cut_of h (limit_of self.old) mbs) }
         // The numbers count on from picture to picture.
         ensures sequence { sequence_of self.new
-            ≡ (sequence_of self.old + length (packets_of self.new)) % 65536 }
+            ≡ (sequence_of self.old + length (cutter_packets self.new)) % 65536 }
         ensures holds { (number : ℕ) (h : Header) (mbs : List Mb)
-            → Holds self.old number h mbs → Holds self.new number h mbs }
+            → HoldsMbs self.old number h mbs → HoldsMbs self.new number h mbs }
         ensures added { added_of self.new ≡ added_of self.old }
-        ensures format { format_of self.new ≡ format_of self.old }
+        ensures format { cut_format self.new ≡ cut_format self.old }
         ensures limit { limit_of self.new ≡ limit_of self.old }
     {
         laws::by_functions();
@@ -191,9 +191,9 @@ impl Cutter {
     /// Forgets its pictures and their packets, and counts packets from 0 again: as at the start, in
     /// the same memory.
     pub fn restart(&mut self)
-        ensures format { format_of self.new ≡ format_of self.old }
+        ensures format { cut_format self.new ≡ cut_format self.old }
         ensures limit { limit_of self.new ≡ limit_of self.old }
-        ensures none { packets_of self.new ≡ [] }
+        ensures none { cutter_packets self.new ≡ [] }
         ensures sequence { sequence_of self.new ≡ 0 }
         ensures added { added_of self.new ≡ 0 }
     {
@@ -204,7 +204,7 @@ impl Cutter {
 
     /// How many packets the picture has that was finished last: 0 before the first.
     pub fn count(&self) -> u32
-        ensures count { result ≡ length (packets_of self.now) }
+        ensures count { result ≡ length (cutter_packets self.now) }
         ensures few { result ≤ 396 }
     {
         self.packets.count()
@@ -212,8 +212,8 @@ impl Cutter {
 
     /// Packet i of the picture that was finished last.
     pub fn packet(&self, i: u32) -> &[u8]
-        requires { i < length (packets_of self.now) }
-        ensures { result.now ≡ slice_index_or (packets_of self.now) i [] }
+        requires { i < length (cutter_packets self.now) }
+        ensures { result.now ≡ slice_index_or (cutter_packets self.now) i [] }
     {
         self.packets.packet(i)
     }

@@ -7,8 +7,8 @@ ghost use Rattle.picture_header.specs.declared.header.Header.{Header};
 ghost use Rattle.picture_header.specs.Ranges.{IsHeader};
 ghost use Rattle.rtp_header.specs.Written.{rtp_fields};
 ghost use Rattle.h263_payload.specs.Written.{written_payload, payload_bits};
-ghost use Rattle.slice_layer.specs.Written.{slice_text, padded, bytes_of};
-ghost use Rattle.slice_layer.specs.Writer.{kind_of, format_of, first_of, next_of, quant_of, bytes_in, loan_of, HoldsSlice};
+ghost use Rattle.slice_layer.specs.Written.{slice_text, padded, bytes_filled_by};
+ghost use Rattle.slice_layer.specs.Writer.{slice_kind, slice_format, first_mb_of, next_mb_of, quant_of, bytes_lent, writer_loan, HoldsSlice};
 ghost use Rattle.packet_cutter.specs.Cut.{begins_at, extra_of, front_bytes};
 ghost use Rattle.packet_cutter.specs.Packets.{timestamp_of, BeginsWith};
 ghost use Rattle.packet_cutter.specs.Taken.{IsTaken, unmarked};
@@ -29,21 +29,21 @@ pub struct Part {
 // Adds macroblocks up to the first one with which the slice would not fit. Answers how many it
 // added.
 fn fill(writer: &mut SliceWriter<'_>, mbs: &[MarkedMb]) -> u32
-    requires each { All (IsTaken (kind_of writer.old) (quant_of writer.old)) mbs.now }
-    requires left { next_of writer.old + length mbs.now ≤ mbs_of (format_of writer.old) }
+    requires each { All (IsTaken (slice_kind writer.old) (quant_of writer.old)) mbs.now }
+    requires left { next_mb_of writer.old + length mbs.now ≤ mbs_of (slice_format writer.old) }
     ensures count { result ≤ length mbs.now }
     ensures holds { (h : Header) (begins : Bool) (first : ℕ) → HoldsSlice writer.old h begins first []
         → HoldsSlice writer.new h begins first (unmarked (take result mbs.now)) }
     ensures full { (h : Header) (begins : Bool) (first : ℕ) → HoldsSlice writer.old h begins first []
-        → result < length mbs.now → length (bytes_in writer.old)
-        < bytes_of (slice_text h begins first (unmarked (take (result + 1) mbs.now))) }
+        → result < length mbs.now → length (bytes_lent writer.old)
+        < bytes_filled_by (slice_text h begins first (unmarked (take (result + 1) mbs.now))) }
     ensures some { (h : Header) (begins : Bool) (first : ℕ)
-        → IsHeader h → 1150 ≤ length (bytes_in writer.old)
+        → IsHeader h → 1150 ≤ length (bytes_lent writer.old)
         → HoldsSlice writer.old h begins first [] → 0 < length mbs.now → 0 < result }
-    ensures from { first_of writer.new ≡ first_of writer.old }
-    ensures next { next_of writer.new ≡ next_of writer.old + result }
-    ensures loan { loan_of writer.new ≡ loan_of writer.old }
-    ensures room { length (bytes_in writer.new) ≡ length (bytes_in writer.old) }
+    ensures from { first_mb_of writer.new ≡ first_mb_of writer.old }
+    ensures next { next_mb_of writer.new ≡ next_mb_of writer.old + result }
+    ensures loan { writer_loan writer.new ≡ writer_loan writer.old }
+    ensures room { length (bytes_lent writer.new) ≡ length (bytes_lent writer.old) }
 {
     let mut apart = MbRoom::new();
     let mut count = 0;
@@ -66,13 +66,13 @@ fn write_slice(bytes: &mut [u8], header: &Header, first: u32, mbs: &[MarkedMb]) 
     requires each { All (IsTaken header.now.kind header.now.quant) mbs.now }
     ensures some { 0 < result.count }
     ensures few { result.count ≤ length mbs.now }
-    ensures size { result.size ≡ bytes_of (slice_text header.now (begins_at first) first
+    ensures size { result.size ≡ bytes_filled_by (slice_text header.now (begins_at first) first
         (unmarked (take result.count mbs.now))) }
     ensures text { bits_of (take result.size bytes.new) ≡ padded (slice_text header.now
         (begins_at first) first (unmarked (take result.count mbs.now))) }
     ensures fits { result.size ≤ length bytes.old }
     ensures longest { result.count < length mbs.now
-        → length bytes.old < bytes_of (slice_text header.now (begins_at first) first
+        → length bytes.old < bytes_filled_by (slice_text header.now (begins_at first) first
         (unmarked (take (result.count + 1) mbs.now))) }
 {
     let mut writer = SliceWriter::start(bytes, header, first == 0, first);

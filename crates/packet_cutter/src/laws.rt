@@ -12,9 +12,9 @@ ghost use Rattle.picture_header.specs.declared.header.Header.{Header};
 ghost use Rattle.picture_header.specs.Ranges.{IsHeader};
 ghost use Rattle.slice_layer.specs.Around.{around};
 ghost use Rattle.slice_layer.specs.Written.{mbs_text, AreWritable};
-ghost use Rattle.packet_cutter.specs.Cut.{packet_bytes, IsCut, joined, Fit};
+ghost use Rattle.packet_cutter.specs.Cut.{packet_bytes, IsCut, runs_joined, Fit};
 ghost use Rattle.packet_cutter.specs.Parts.{HasShortParts};
-ghost use Rattle.packet_cutter.specs.Slices.{cut_of, slices_at};
+ghost use Rattle.packet_cutter.specs.Slices.{cut_of, runs_as_slices};
 ghost use Rattle.packet_cutter.specs.Packets.{packet_text, packet_of, packets_of};
 ghost use Rattle.packet_cutter.specs.Packets.{ArePackets, ArePacketsOf};
 ghost use Rattle.packet_cutter.specs.Forms.{HaveOneForm};
@@ -27,7 +27,7 @@ use picture_header::laws::{in_a_syntax, longest_text};
 /// within the limit: so the packets are as many as the slices, and each has at most `limit` bytes.
 pub fn cut_parts()
     ensures covers { (h : Header) (limit first : ℕ) (mbs : List Mb) (runs : List (List Mb))
-        → IsCut h limit first mbs runs → joined runs ≡ mbs }
+        → IsCut h limit first mbs runs → runs_joined runs ≡ mbs }
     ensures each { (h : Header) (limit first : ℕ) (mbs : List Mb) (runs : List (List Mb))
         → IsCut h limit first mbs runs → Fit h limit first runs }
     ensures count { (number sequence : ℕ)
@@ -64,7 +64,7 @@ pub fn by_style()
 /// The cut is `cut_of`, and its packets are `packets_of`.
 pub fn by_functions()
     ensures cut { (h : Header) (limit : ℕ) (mbs : List Mb) (runs : List (List Mb))
-        → IsCut h limit 0 mbs runs → slices_at 0 runs ≡ cut_of h limit mbs }
+        → IsCut h limit 0 mbs runs → runs_as_slices 0 runs ≡ cut_of h limit mbs }
     ensures packets { (number sequence : ℕ) (h : Header) (limit : ℕ) (mbs : List Mb)
         (packets : List (List ℕ)) → ArePacketsOf number sequence h limit mbs packets
         → packets ≡ packets_of number sequence h (cut_of h limit mbs) }

@@ -36,7 +36,7 @@ fn part(bytes: &[u8], from: usize, to: usize) -> &[u8]
 }
 
 impl Packets {
-    ghost use Rattle.packet_cutter.specs.Kept.{most_bytes, room_of, count_of, kept_packets, Appends};
+    ghost use Rattle.packet_cutter.specs.Kept.{most_bytes, room_for_packets, packet_count, kept_packets, AppendsPacket};
 
     /// Room for this many packets, and none in it.
     pub fn start(alloc: Global, limit: u32, most: u32) -> Result<Packets, AllocError>
@@ -44,7 +44,7 @@ impl Packets {
         requires high { limit ≤ 9000 }
         requires few { most ≤ 396 }
         ensures limit { IfOk result (λ p. most_bytes p ≡ limit) }
-        ensures room { IfOk result (λ p. room_of p ≡ limit * most) }
+        ensures room { IfOk result (λ p. room_for_packets p ≡ limit * most) }
         ensures none { IfOk result (λ p. kept_packets p ≡ []) }
     {
         let size = limit as usize * most as usize;
@@ -58,7 +58,7 @@ impl Packets {
 
     /// How many packets there are.
     pub fn count(&self) -> u32
-        ensures count { result ≡ count_of self.now }
+        ensures count { result ≡ packet_count self.now }
         ensures packets { result ≡ length (kept_packets self.now) }
         ensures few { result ≤ 396 }
     {
@@ -78,9 +78,9 @@ impl Packets {
     /// Forgets the packets.
     pub fn clear(&mut self)
         ensures none { kept_packets self.new ≡ [] }
-        ensures count { count_of self.new ≡ 0 }
+        ensures count { packet_count self.new ≡ 0 }
         ensures limit { most_bytes self.new ≡ most_bytes self.old }
-        ensures room { room_of self.new ≡ room_of self.old }
+        ensures room { room_for_packets self.new ≡ room_for_packets self.old }
     {
         self.count = 0;
         self.places[0] = 0;
@@ -96,19 +96,19 @@ impl Packets {
         number: u32,
         sequence: u16,
     ) -> u32
-        requires few { count_of self.old < 396 }
-        requires room { most_bytes self.old * (count_of self.old + 1) ≤ room_of self.old }
+        requires few { packet_count self.old < 396 }
+        requires room { most_bytes self.old * (packet_count self.old + 1) ≤ room_for_packets self.old }
         requires header { IsHeader header.now }
         requires some { 0 < length mbs.now }
         requires left { first + length mbs.now ≡ mbs_of header.now.format }
         requires each { All (IsTaken header.now.kind header.now.quant) mbs.now }
-        ensures packet { Appends self.old self.new number sequence header.now first
+        ensures packet { AppendsPacket self.old self.new number sequence header.now first
             (unmarked mbs.now) result }
         ensures within { result ≤ length mbs.now }
         ensures some { 0 < result }
-        ensures count { count_of self.new ≡ count_of self.old + 1 }
+        ensures count { packet_count self.new ≡ packet_count self.old + 1 }
         ensures limit { most_bytes self.new ≡ most_bytes self.old }
-        ensures room { room_of self.new ≡ room_of self.old }
+        ensures room { room_for_packets self.new ≡ room_for_packets self.old }
     {
         let at = self.places[self.count as usize];
         let end = at + self.limit;

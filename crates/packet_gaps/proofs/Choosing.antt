@@ -5,7 +5,7 @@ use Rattle.std.specs.List.{AllByRecursion}
 use Rattle.std.proofs.lemmas.Bool.{eqb-true, leb-false, leb-true, ltb-false, false≢true}
 use Rattle.packet_gaps.specs.declared.gap.Gap.{Gap}
 use Rattle.packet_gaps.specs.declared.moment.Moment.{Moment}
-use Rattle.packet_gaps.specs.Asking.{due_of, has_waited, is_in_time, is_named, is_told, may_ask, told_by, told_of}
+use Rattle.packet_gaps.specs.Asking.{moment_due, has_waited, is_in_time, is_behind_newest, is_in_nack, may_ask, gaps_told_by, gaps_asked_for}
 use Rattle.packet_gaps.specs.Laws.{ComesInTime}
 
 three : (a b c : Bool) → cond a (cond b c false) false ≡ true → (b ≡ true) × (c ≡ true)
@@ -29,17 +29,18 @@ waited false true c e = absurd (false≢true e)
 
 pub asked_parts : (m : Moment) (newest : ℕ) (g : Gap) → may_ask m newest g ≡ true
     → (has_waited m g ≡ true) × (is_in_time m g.picture ≡ true)
-asked_parts m newest g e = three (is_named newest g) (has_waited m g) (is_in_time m g.picture) e
+asked_parts m newest g e = three (is_behind_newest newest g) (has_waited m g) (is_in_time m g.picture) e
 
-pub told_may : (m : Moment) (newest first : ℕ) (g : Gap) → is_told m newest first g ≡ true → may_ask m newest g ≡ true
+pub told_may : (m : Moment) (newest first : ℕ) (g : Gap) → is_in_nack m newest first g ≡ true
+    → may_ask m newest g ≡ true
 told_may m newest first g e = third (ltb g.number first) (ltb 16 (g.number - first)) (may_ask m newest g) e
 
 comes : (m : Moment) (g : Gap) → is_in_time m g.picture ≡ true → ComesInTime m g
 comes m g e =
-    let p = second (ltb g.picture m.next) (leb (m.time + m.round_trip) (due_of m g.picture)) e in
+    let p = second (ltb g.picture m.next) (leb (m.time + m.round_trip) (moment_due m g.picture)) e in
     record {
       unplayed = ltb-false g.picture m.next p.0;
-      comes = leb-true (m.time + m.round_trip) (due_of m g.picture) p.1;
+      comes = leb-true (m.time + m.round_trip) (moment_due m g.picture) p.1;
     }
 
 -- it was asked for once at most, and then a round trip ago, or longer
@@ -78,13 +79,13 @@ chosen P p f [] = tt
 chosen P p f (g ∷ gs) = one_more P (p g) g (filter p gs) (f g) (chosen P p f gs)
 
 told_all : (P : Gap → Type 0) (m : Moment) (newest : ℕ) (gaps : List Gap)
-    → ((g : Gap) → may_ask m newest g ≡ true → P g) → (o : Option Gap) → AllByRecursion P (told_by m newest gaps o)
+    → ((g : Gap) → may_ask m newest g ≡ true → P g) → (o : Option Gap) → AllByRecursion P (gaps_told_by m newest gaps o)
 told_all P m newest gaps f None = tt
 told_all P m newest gaps f (Some x) =
-    chosen P (is_told m newest x.number) (λ g e. f g (told_may m newest x.number g e)) gaps
+    chosen P (is_in_nack m newest x.number) (λ g e. f g (told_may m newest x.number g e)) gaps
 
 pub in_time : (m : Moment) (newest : Option ℕ) (gaps : List Gap)
-    → AllByRecursion (ComesInTime m) (told_of m newest gaps)
+    → AllByRecursion (ComesInTime m) (gaps_asked_for m newest gaps)
 in_time m None gaps = tt
 in_time m (Some newest) gaps =
     told_all (ComesInTime m) m newest gaps (λ g e. comes m g (asked_parts m newest g e).1)

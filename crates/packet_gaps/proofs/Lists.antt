@@ -4,7 +4,7 @@ use Rattle.std.specs.Prelude.{find, is_some}
 use Rattle.std.proofs.lemmas.Bool.{cases_lt, true≢false}
 use Rattle.std.proofs.lemmas.List.{append_assoc, map-append, length-map}
 use Rattle.packet_gaps.specs.declared.gap.Gap.{Gap}
-use Rattle.packet_gaps.specs.Missing.{last_of, numbers_from}
+use Rattle.packet_gaps.specs.Missing.{last_gaps, numbers_from}
 
 -- ---- numbers in a row
 
@@ -81,7 +81,7 @@ long g xs f n =
     ∙ ap (λ (k : ℕ). length xs + k) (length-map (numbers_from f n) g ∙ length_numbers f n)
 
 few : (g : ℕ → Gap) (xs : List Gap) (f n : ℕ) → n ≤ 64
-    → last_of (64 - n) xs ++ map g (numbers_from f n) ≡ last_of 64 (xs ++ map g (numbers_from f n))
+    → last_gaps (64 - n) xs ++ map g (numbers_from f n) ≡ last_gaps 64 (xs ++ map g (numbers_from f n))
 few g xs f n h =
     let ys = map g (numbers_from f n) in
     let l = long g xs f n in
@@ -91,7 +91,7 @@ few g xs f n h =
 
 -- n is 64 + k
 many : (g : ℕ → Gap) (xs : List Gap) (f k n : ℕ) → n ≡ 64 + k
-    → map g (numbers_from (f + k) 64) ≡ last_of 64 (xs ++ map g (numbers_from f n))
+    → map g (numbers_from (f + k) 64) ≡ last_gaps 64 (xs ++ map g (numbers_from f n))
 many g xs f k n s =
     let ys = map g (numbers_from f n) in
     let l = long g xs f n in
@@ -100,15 +100,15 @@ many g xs f k n s =
     ∙ sym (drop_map g k (numbers_from f n))
     ∙ sym (drop_past (length (xs ++ ys) - 64) k xs ys e)
 
-none_left : (n : ℕ) (xs : List Gap) → n ≡ 0 → last_of n xs ≡ []
+none_left : (n : ℕ) (xs : List Gap) → n ≡ 0 → last_gaps n xs ≡ []
 none_left n xs e =
     let s : length xs - n ≡ length xs = omega (arith, e) in
     ap (λ (k : ℕ). drop k xs) s ∙ drop_all xs
 
 pub filled : (g : ℕ → Gap) (xs : List Gap) (newest number count : ℕ) → newest < number
     → count ≡ min (number - newest - 1) 64
-    → last_of (64 - count) xs ++ map g (numbers_from (number - count) count)
-    ≡ last_of 64 (xs ++ map g (numbers_from (newest + 1) (number - newest - 1)))
+    → last_gaps (64 - count) xs ++ map g (numbers_from (number - count) count)
+    ≡ last_gaps 64 (xs ++ map g (numbers_from (newest + 1) (number - newest - 1)))
 filled g xs newest number count h e =
     ⊎_elim
     (λ (i : 64 < number - newest - 1).
@@ -124,8 +124,8 @@ filled g xs newest number count h e =
     (λ (i : number - newest - 1 ≤ 64).
     let c : count ≡ number - newest - 1 = omega arith in
     let s : number - count ≡ newest + 1 = omega arith in
-    ap (λ (n : ℕ). last_of (64 - count) xs ++ map g (numbers_from n count)) s
-    ∙ ap (λ (n : ℕ). last_of (64 - n) xs ++ map g (numbers_from (newest + 1) n)) c
+    ap (λ (n : ℕ). last_gaps (64 - count) xs ++ map g (numbers_from n count)) s
+    ∙ ap (λ (n : ℕ). last_gaps (64 - n) xs ++ map g (numbers_from (newest + 1) n)) c
     ∙ few g xs (newest + 1) (number - newest - 1) i)
     (cases_lt 64 (number - newest - 1))
 

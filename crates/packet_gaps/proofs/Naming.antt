@@ -5,19 +5,19 @@ use Rattle.std.specs.List.{AllByRecursion}
 use Rattle.std.proofs.lemmas.Bool.{cases_Bool, cond_both, eq-eqb, eqb-true, le-ltb, ltb-false, lt-leb, ne_eqb, false≢true, or_left, or_right}
 use Rattle.packet_gaps.specs.declared.gap.Gap.{Gap}
 use Rattle.packet_gaps.specs.declared.moment.Moment.{Moment}
-use Rattle.packet_gaps.specs.Asking.{after_asking, asked_again, bit_of, field_of, has_waited, is_asked, is_in_time, is_named, is_told, mask_of, may_ask, nack_of, told_by, told_from, told_of, when_told}
+use Rattle.packet_gaps.specs.Asking.{after_asking, asked_again, mask_bit, field_of, has_waited, is_asked, is_in_time, is_behind_newest, is_in_nack, mask_of, may_ask, nack_of, gaps_told_by, told_from, gaps_asked_for, when_told}
 use Rattle.packet_gaps.specs.Kept.{has_number}
-use Rattle.packet_gaps.specs.Laws.{Names, bit_at}
+use Rattle.packet_gaps.specs.Laws.{NackNames, bit_at}
 
 -- ---- bits
 
-lowest : (b : Bool) (n : ℕ) → bit_at (bit_of b + 2 * n) 0 ≡ b
+lowest : (b : Bool) (n : ℕ) → bit_at (mask_bit b + 2 * n) 0 ≡ b
 lowest true n =
     let e : (1 + 2 * n) % 2 ≡ 1 = omega arith in
     eq-eqb ((1 + 2 * n) % 2) 1 e
 lowest false n = ne_eqb ((0 + 2 * n) % 2) 1 (λ e. omega (arith, e))
 
-halved : (b : Bool) (n : ℕ) → (bit_of b + 2 * n) / 2 ≡ n
+halved : (b : Bool) (n : ℕ) → (mask_bit b + 2 * n) / 2 ≡ n
 halved true n = omega arith
 halved false n = omega arith
 
@@ -36,7 +36,7 @@ bits is (suc n) i (suc k) h =
 -- ---- those that are told
 
 told_at : (m : Moment) (newest first : ℕ) (g : Gap) → first ≤ g.number → g.number ≤ first + 16
-    → is_told m newest first g ≡ may_ask m newest g
+    → is_in_nack m newest first g ≡ may_ask m newest g
 told_at m newest first g h i =
     ap (λ (b : Bool). cond b false (cond (ltb 16 (g.number - first)) false (may_ask m newest g)))
     (le-ltb g.number first h)
@@ -56,16 +56,16 @@ has_cond number true g gs = refl
 has_cond number false g gs = refl
 
 asked_is_told : (m : Moment) (newest first i : ℕ) (gs : List Gap) → i ≤ 16
-    → is_asked m newest gs first i ≡ has_number (first + i) (filter (is_told m newest first) gs)
+    → is_asked m newest gs first i ≡ has_number (first + i) (filter (is_in_nack m newest first) gs)
 asked_is_told m newest first i [] h = refl
 asked_is_told m newest first i (g ∷ gs) h =
-    one_any (eqb g.number (first + i)) (is_told m newest first g) (may_ask m newest g) (is_asked m newest gs first i)
-    (has_number (first + i) (filter (is_told m newest first) gs))
+    one_any (eqb g.number (first + i)) (is_in_nack m newest first g) (may_ask m newest g) (is_asked m newest gs first i)
+    (has_number (first + i) (filter (is_in_nack m newest first) gs))
     (λ e.
     let d = eqb-true g.number (first + i) e in
     told_at m newest first g (omega (arith, d)) (omega (arith, d, h)))
     (asked_is_told m newest first i gs h)
-    ∙ has_cond (first + i) (is_told m newest first g) g (filter (is_told m newest first) gs)
+    ∙ has_cond (first + i) (is_in_nack m newest first g) g (filter (is_in_nack m newest first) gs)
 
 -- ---- the first one
 
@@ -77,22 +77,22 @@ same_some {x} {y} e = ap (λ (o : Option Gap). cond_gap o x) e
     cond_gap (Some h) g = h
 
 first_told : (m : Moment) (newest : ℕ) (x : Gap) (gs : List Gap) → find (may_ask m newest) gs ≡ Some x
-    → has_number x.number (filter (is_told m newest x.number) gs) ≡ true
+    → has_number x.number (filter (is_in_nack m newest x.number) gs) ≡ true
 first_told m newest x [] e = absurd (false≢true (ap is_some e))
 first_told m newest x (g ∷ gs) e =
-    sym (has_cond x.number (is_told m newest x.number g) g (filter (is_told m newest x.number) gs))
+    sym (has_cond x.number (is_in_nack m newest x.number g) g (filter (is_in_nack m newest x.number) gs))
     ∙ ⊎_elim
     (λ (t : may_ask m newest g ≡ true).
     let s = same_some (sym (ap (λ (b : Bool). cond b (Some g) (find (may_ask m newest) gs)) t) ∙ e) in
     let n : g.number ≡ x.number = ap (λ (y : Gap). y.number) s in
-    ap (λ (b : Bool). cond b (eqb g.number x.number || has_number x.number (filter (is_told m newest x.number) gs))
-    (has_number x.number (filter (is_told m newest x.number) gs)))
+    ap (λ (b : Bool). cond b (eqb g.number x.number || has_number x.number (filter (is_in_nack m newest x.number) gs))
+    (has_number x.number (filter (is_in_nack m newest x.number) gs)))
     (told_at m newest x.number g (omega (arith, n)) (omega (arith, n)) ∙ t)
-    ∙ or_left (eqb g.number x.number) (has_number x.number (filter (is_told m newest x.number) gs))
+    ∙ or_left (eqb g.number x.number) (has_number x.number (filter (is_in_nack m newest x.number) gs))
     (eq-eqb g.number x.number n))
     (λ (t : may_ask m newest g ≡ false).
-    either (is_told m newest x.number g) (eqb g.number x.number)
-    (has_number x.number (filter (is_told m newest x.number) gs))
+    either (is_in_nack m newest x.number g) (eqb g.number x.number)
+    (has_number x.number (filter (is_in_nack m newest x.number) gs))
     (first_told m newest x gs (sym (ap (λ (b : Bool). cond b (Some g) (find (may_ask m newest) gs)) t) ∙ e)))
     (cases_Bool (may_ask m newest g))
   where
@@ -101,10 +101,11 @@ first_told m newest x (g ∷ gs) e =
     either false c d e = e
 
 near : (m : Moment) (newest first : ℕ) (gs : List Gap)
-    → AllByRecursion (λ g. (first ≤ g.number) × (g.number ≤ first + 16)) (filter (is_told m newest first) gs)
+    → AllByRecursion (λ g. (first ≤ g.number) × (g.number ≤ first + 16)) (filter (is_in_nack m newest first) gs)
 near m newest first [] = tt
 near m newest first (g ∷ gs) =
-    cond_both (is_told m newest first g) (g ∷ filter (is_told m newest first) gs) (filter (is_told m newest first) gs)
+    cond_both (is_in_nack m newest first g) (g ∷ filter (is_in_nack m newest first) gs)
+    (filter (is_in_nack m newest first) gs)
     (AllByRecursion (λ g. (first ≤ g.number) × (g.number ≤ first + 16)))
     (λ e. (
       within (ltb g.number first) (ltb 16 (g.number - first)) (may_ask m newest g) refl refl e,
@@ -122,8 +123,8 @@ near m newest first (g ∷ gs) =
         (low, omega (arith, low, high))
 
 named_by : (m : Moment) (newest : ℕ) (gs : List Gap) (o : Option Gap) → find (may_ask m newest) gs ≡ o
-    → MatchOption (field_of m newest gs o) (told_by m newest gs o ≡ [])
-    (λ n. (first : ℕ) × Names n first (told_by m newest gs o))
+    → MatchOption (field_of m newest gs o) (gaps_told_by m newest gs o ≡ [])
+    (λ n. (first : ℕ) × NackNames n first (gaps_told_by m newest gs o))
 named_by m newest gs None e = refl
 named_by m newest gs (Some x) e = (
   x.number,
@@ -134,14 +135,14 @@ named_by m newest gs (Some x) e = (
         let d : x.number + (1 + k) ≡ x.number + 1 + k = omega arith in
         bits (is_asked m newest gs x.number) 16 1 k h
         ∙ asked_is_told m newest x.number (1 + k) gs (omega (arith, h))
-        ∙ ap (λ (j : ℕ). has_number j (filter (is_told m newest x.number) gs)) d;
+        ∙ ap (λ (j : ℕ). has_number j (filter (is_in_nack m newest x.number) gs)) d;
     near = near m newest x.number gs;
   },
 )
 
 pub named : (m : Moment) (newest : Option ℕ) (gs : List Gap)
-    → MatchOption (nack_of m newest gs) (told_of m newest gs ≡ [])
-    (λ n. (first : ℕ) × Names n first (told_of m newest gs))
+    → MatchOption (nack_of m newest gs) (gaps_asked_for m newest gs ≡ [])
+    (λ n. (first : ℕ) × NackNames n first (gaps_asked_for m newest gs))
 named m None gs = refl
 named m (Some newest) gs = named_by m newest gs (find (may_ask m newest) gs) refl
 
@@ -159,7 +160,8 @@ not_asked false b c e = refl
 
 just_asked : (m : Moment) (newest : ℕ) (g : Gap) → 1 ≤ m.round_trip → may_ask m newest (asked_again m.time g) ≡ false
 just_asked m newest g h =
-    not_asked (is_named newest (asked_again m.time g)) (has_waited m (asked_again m.time g)) (is_in_time m g.picture)
+    not_asked (is_behind_newest newest (asked_again m.time g)) (has_waited m (asked_again m.time g))
+    (is_in_time m g.picture)
     (not_waited (eqb (min (g.asked + 1) 255) 0) (leb 2 (min (g.asked + 1) 255)) (leb m.round_trip (m.time - m.time))
     (ne_eqb (min (g.asked + 1) 255) 0 (λ e. omega (arith, e)))
     (lt-leb m.round_trip (m.time - m.time) (omega (arith, h))))
@@ -168,7 +170,7 @@ just_asked m newest g h =
 not_more : (m : Moment) (newest first : ℕ) (g : Gap) → 1 ≤ m.round_trip → may_ask m newest g ≡ false
     → may_ask m newest (when_told m newest first g) ≡ false
 not_more m newest first g h e =
-    cond_both (is_told m newest first g) (asked_again m.time g) g (λ x. may_ask m newest x ≡ false)
+    cond_both (is_in_nack m newest first g) (asked_again m.time g) g (λ x. may_ask m newest x ≡ false)
     (λ t. just_asked m newest g h) (λ t. e)
 
 less_by : (p : Gap → Bool) (a b : Bool) (x y : Gap) (xs ys : List Gap) → (b ≡ false → a ≡ false)

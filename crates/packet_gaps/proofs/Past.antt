@@ -6,9 +6,9 @@ use Rattle.std.proofs.lemmas.Bool.{cases_Bool, cases_lt, cond_both, eq-eqb, eqb-
 use Rattle.std.proofs.lemmas.List.{length-map}
 use Rattle.packet_gaps.specs.declared.gap.Gap.{Gap}
 use Rattle.packet_gaps.specs.declared.moment.Moment.{Moment}
-use Rattle.packet_gaps.specs.Asking.{after_asking, asked_again, is_told, may_ask, told_from, when_told}
-use Rattle.packet_gaps.specs.Missing.{after_number, after_packet, gap_of, last_of, newest_after, newest_after_packet, number_of, numbers_from}
-use Rattle.packet_gaps.specs.Kept.{Event, Came, Played, Asked, came_of, kept_of, number_after}
+use Rattle.packet_gaps.specs.Asking.{after_asking, asked_again, is_in_nack, may_ask, told_from, when_told}
+use Rattle.packet_gaps.specs.Missing.{after_number, gaps_after_packet, gap_of, last_gaps, newest_number_after, newest_after_packet, counted_number, numbers_from}
+use Rattle.packet_gaps.specs.Kept.{GapEvent, Came, Played, Asked, came_of, kept_gaps_after, counted_on}
 use Rattle.packet_gaps.specs.Laws.{IsMissing}
 
 -- ---- lists
@@ -75,7 +75,7 @@ length_drop (suc n) (g ∷ gs) =
     let h = length_drop n gs in
     omega (arith, h)
 
-few_last : (gs : List Gap) → length (last_of 64 gs) ≤ 64
+few_last : (gs : List Gap) → length (last_gaps 64 gs) ≤ 64
 few_last gs =
     let h = length_drop (length gs - 64) gs in
     omega (arith, h)
@@ -86,13 +86,13 @@ few_after newest number picture gs h =
     let p = λ (g : Gap). not (eqb g.number number) in
     let xs = gs ++ map (gap_of picture) (numbers_from (newest + 1) (number - newest - 1)) in
     let f = few_filter p gs in
-    cond_both (ltb newest number) (last_of 64 xs) (filter p gs) (λ l. length l ≤ 64) (λ e. few_last xs)
+    cond_both (ltb newest number) (last_gaps 64 xs) (filter p gs) (λ l. length l ≤ 64) (λ e. few_last xs)
     (λ e. omega (arith, f, h))
 
 few_packet : (o : Option ℕ) (sequence picture : ℕ) (gs : List Gap) → length gs ≤ 64
-    → length (after_packet o sequence picture gs) ≤ 64
+    → length (gaps_after_packet o sequence picture gs) ≤ 64
 few_packet None sequence picture gs h = h
-few_packet (Some newest) sequence picture gs h = few_after newest (number_of newest sequence) picture gs h
+few_packet (Some newest) sequence picture gs h = few_after newest (counted_number newest sequence) picture gs h
 
 few_told : (m : Moment) (newest : ℕ) (gs : List Gap) (o : Option Gap) → length gs ≤ 64
     → length (told_from m newest gs o) ≤ 64
@@ -105,14 +105,15 @@ few_asking : (m : Moment) (o : Option ℕ) (gs : List Gap) → length gs ≤ 64 
 few_asking m None gs h = h
 few_asking m (Some newest) gs h = few_told m newest gs (find (may_ask m newest) gs) h
 
-pub few : (past : List Event) → length (kept_of past).gaps ≤ 64
+pub few : (past : List GapEvent) → length (kept_gaps_after past).gaps ≤ 64
 few [] = omega arith
-few (Came sequence picture ∷ past) = few_packet (kept_of past).newest sequence picture (kept_of past).gaps (few past)
+few (Came sequence picture ∷ past) = few_packet (kept_gaps_after past).newest sequence picture
+    (kept_gaps_after past).gaps (few past)
 few (Played next ∷ past) =
-    let f = few_filter (λ (g : Gap). leb next g.picture) (kept_of past).gaps in
+    let f = few_filter (λ (g : Gap). leb next g.picture) (kept_gaps_after past).gaps in
     let h = few past in
     omega (arith, f, h)
-few (Asked m ∷ past) = few_asking m (kept_of past).newest (kept_of past).gaps (few past)
+few (Asked m ∷ past) = few_asking m (kept_gaps_after past).newest (kept_gaps_after past).gaps (few past)
 
 -- ---- what is missing
 
@@ -193,7 +194,7 @@ not_same a b e f =
 ahead : (came : List ℕ) (newest k picture : ℕ) (gs : List Gap) → IsNewest came newest → newest < k
     → AllByRecursion (λ g. Between came newest g.number) gs
     → AllByRecursion (λ g. Between (k ∷ came) k g.number)
-    (last_of 64 (gs ++ map (gap_of picture) (numbers_from (newest + 1) (k - newest - 1))))
+    (last_gaps 64 (gs ++ map (gap_of picture) (numbers_from (newest + 1) (k - newest - 1))))
 ahead came newest k picture gs i h s =
     let P = λ (g : Gap). Between (k ∷ came) k g.number in
     let new = map (gap_of picture) (numbers_from (newest + 1) (k - newest - 1)) in
@@ -223,21 +224,21 @@ behind came newest k gs s =
     other g b e = record { is = still came k g.number (not_same g.number k e) b.is; below = b.below }
 
 by_number : (came : List ℕ) (newest k picture : ℕ) (gs : List Gap) → Inside came (Some newest) gs
-    → Inside (k ∷ came) (Some (newest_after newest k)) (after_number newest k picture gs)
+    → Inside (k ∷ came) (Some (newest_number_after newest k)) (after_number newest k picture gs)
 by_number came newest k picture gs s =
     ⊎_elim
     (λ (h : newest < k).
     let t = lt-ltb newest k h in
     subst (λ (b : Bool). IsNewest (k ∷ came) (cond b k newest)
     × AllByRecursion (λ g. Between (k ∷ came) (cond b k newest) g.number)
-    (cond b (last_of 64 (gs ++ map (gap_of picture) (numbers_from (newest + 1) (k - newest - 1))))
+    (cond b (last_gaps 64 (gs ++ map (gap_of picture) (numbers_from (newest + 1) (k - newest - 1))))
     (filter (λ g. not (eqb g.number k)) gs))) (sym t)
     (newer came newest k s.0 h, ahead came newest k picture gs s.0 h s.1))
     (λ (h : k ≤ newest).
     let t = le-ltb newest k h in
     subst (λ (b : Bool). IsNewest (k ∷ came) (cond b k newest)
     × AllByRecursion (λ g. Between (k ∷ came) (cond b k newest) g.number)
-    (cond b (last_of 64 (gs ++ map (gap_of picture) (numbers_from (newest + 1) (k - newest - 1))))
+    (cond b (last_gaps 64 (gs ++ map (gap_of picture) (numbers_from (newest + 1) (k - newest - 1))))
     (filter (λ g. not (eqb g.number k)) gs))) (sym t)
     (same_newest came newest k s.0 h, behind came newest k gs s.1))
     (cases_lt newest k)
@@ -252,9 +253,9 @@ none_before came k gs e f = (
 )
 
 by_packet : (came : List ℕ) (o : Option ℕ) (sequence picture : ℕ) (gs : List Gap) → Inside came o gs
-    → Inside (number_after o sequence ∷ came) (newest_after_packet o sequence) (after_packet o sequence picture gs)
+    → Inside (counted_on o sequence ∷ came) (newest_after_packet o sequence) (gaps_after_packet o sequence picture gs)
 by_packet came None sequence picture gs s = none_before came (65536 + sequence) gs s.0 s.1
-by_packet came (Some newest) sequence picture gs s = by_number came newest (number_of newest sequence) picture gs s
+by_packet came (Some newest) sequence picture gs s = by_number came newest (counted_number newest sequence) picture gs s
 
 by_filter : (came : List ℕ) (o : Option ℕ) (p : Gap → Bool) (gs : List Gap) → Inside came o gs
     → Inside came o (filter p gs)
@@ -263,7 +264,7 @@ by_filter came (Some newest) p gs s = (s.0, all_filter (λ g. Between came newes
 
 pub same_number : (m : Moment) (newest first : ℕ) (g : Gap) → (when_told m newest first g).number ≡ g.number
 same_number m newest first g =
-    cond_both (is_told m newest first g) (asked_again m.time g) g (λ (x : Gap). x.number ≡ g.number) (λ e. refl)
+    cond_both (is_in_nack m newest first g) (asked_again m.time g) g (λ (x : Gap). x.number ≡ g.number) (λ e. refl)
     (λ e. refl)
 
 by_told : (came : List ℕ) (m : Moment) (newest : ℕ) (gs : List Gap) (o : Option Gap) → Inside came (Some newest) gs
@@ -280,13 +281,15 @@ by_asking : (came : List ℕ) (m : Moment) (o : Option ℕ) (gs : List Gap) → 
 by_asking came m None gs s = s
 by_asking came m (Some newest) gs s = by_told came m newest gs (find (may_ask m newest) gs) s
 
-inside : (past : List Event) → Inside (came_of past) (kept_of past).newest (kept_of past).gaps
+inside : (past : List GapEvent) → Inside (came_of past) (kept_gaps_after past).newest (kept_gaps_after past).gaps
 inside [] = (refl, refl)
 inside (Came sequence picture ∷ past) =
-    by_packet (came_of past) (kept_of past).newest sequence picture (kept_of past).gaps (inside past)
+    by_packet (came_of past) (kept_gaps_after past).newest sequence picture (kept_gaps_after past).gaps (inside past)
 inside (Played next ∷ past) =
-    by_filter (came_of past) (kept_of past).newest (λ g. leb next g.picture) (kept_of past).gaps (inside past)
-inside (Asked m ∷ past) = by_asking (came_of past) m (kept_of past).newest (kept_of past).gaps (inside past)
+    by_filter (came_of past) (kept_gaps_after past).newest (λ g. leb next g.picture) (kept_gaps_after past).gaps
+    (inside past)
+inside (Asked m ∷ past) = by_asking (came_of past) m (kept_gaps_after past).newest (kept_gaps_after past).gaps
+    (inside past)
 
 missing_in : (came : List ℕ) (o : Option ℕ) (gs : List Gap) → Inside came o gs
     → AllByRecursion (λ g. IsMissing came g.number) gs
@@ -294,8 +297,9 @@ missing_in came None gs s = subst (AllByRecursion (λ g. IsMissing came g.number
 missing_in came (Some newest) gs s =
     all_with (λ g. Between came newest g.number) (λ g. IsMissing came g.number) (λ g b. b.is) gs s.1
 
-pub missing : (past : List Event) → AllByRecursion (λ g. IsMissing (came_of past) g.number) (kept_of past).gaps
-missing past = missing_in (came_of past) (kept_of past).newest (kept_of past).gaps (inside past)
+pub missing : (past : List GapEvent)
+    → AllByRecursion (λ g. IsMissing (came_of past) g.number) (kept_gaps_after past).gaps
+missing past = missing_in (came_of past) (kept_gaps_after past).newest (kept_gaps_after past).gaps (inside past)
 
 abbrev pub BelowIn : Option ℕ → List Gap → Type 0
 BelowIn None gs = gs ≡ []
@@ -306,5 +310,5 @@ below_in came None gs s = s.0
 below_in came (Some newest) gs s =
     all_with (λ g. Between came newest g.number) (λ g. g.number < newest) (λ g b. b.below) gs s.1
 
-pub below_newest : (past : List Event) → BelowIn (kept_of past).newest (kept_of past).gaps
-below_newest past = below_in (came_of past) (kept_of past).newest (kept_of past).gaps (inside past)
+pub below_newest : (past : List GapEvent) → BelowIn (kept_gaps_after past).newest (kept_gaps_after past).gaps
+below_newest past = below_in (came_of past) (kept_gaps_after past).newest (kept_gaps_after past).gaps (inside past)

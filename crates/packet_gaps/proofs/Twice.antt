@@ -5,9 +5,9 @@ use Rattle.std.specs.List.{AllByRecursion}
 use Rattle.std.proofs.lemmas.Bool.{cases_Bool, cases_lt, cond_both, eqb-true, ltb-true, ne_eqb, false≢true, or_from}
 use Rattle.packet_gaps.specs.declared.gap.Gap.{Gap}
 use Rattle.packet_gaps.specs.declared.moment.Moment.{Moment}
-use Rattle.packet_gaps.specs.Asking.{after_asking, asked_again, is_told, may_ask, told_by, told_from, told_of, when_told}
-use Rattle.packet_gaps.specs.Missing.{after_number, after_packet, gap_of, last_of, newest_after, newest_after_packet, number_of, numbers_from}
-use Rattle.packet_gaps.specs.Kept.{Event, Came, Played, Asked, asked_at, has_number, kept_of}
+use Rattle.packet_gaps.specs.Asking.{after_asking, asked_again, is_in_nack, may_ask, gaps_told_by, told_from, gaps_asked_for, when_told}
+use Rattle.packet_gaps.specs.Missing.{after_number, gaps_after_packet, gap_of, last_gaps, newest_number_after, newest_after_packet, counted_number, numbers_from}
+use Rattle.packet_gaps.specs.Kept.{GapEvent, Came, Played, Asked, asked_at, has_number, kept_gaps_after}
 use Rattle.packet_gaps.proofs.Choosing.{Waited, asked_parts, has_not, told_may}
 use Rattle.packet_gaps.proofs.Past.{BelowIn, all_append, all_drop, all_filter, all_from, all_with, below_newest, same_number}
 
@@ -68,16 +68,16 @@ grow_number : (newest k picture : ℕ) (gs : List Gap) → Increasing gs → All
     → Increasing (after_number newest k picture gs)
 grow_number newest k picture gs s b =
     let new = map (gap_of picture) (numbers_from (newest + 1) (k - newest - 1)) in
-    cond_both (ltb newest k) (last_of 64 (gs ++ new)) (filter (λ g. not (eqb g.number k)) gs) Increasing
+    cond_both (ltb newest k) (last_gaps 64 (gs ++ new)) (filter (λ g. not (eqb g.number k)) gs) Increasing
     (λ e. grow_drop (length (gs ++ new) - 64) (gs ++ new)
     (grow_append newest gs new s (grow_from picture (newest + 1) (k - newest - 1)) b
     (all_from (λ h. newest ≤ h.number) (gap_of picture) (newest + 1) (k - newest - 1) (λ j i l. omega (arith, i)))))
     (λ e. grow_filter (λ g. not (eqb g.number k)) gs s)
 
 grow_packet : (o : Option ℕ) (sequence picture : ℕ) (gs : List Gap) → Increasing gs → BelowIn o gs
-    → Increasing (after_packet o sequence picture gs)
+    → Increasing (gaps_after_packet o sequence picture gs)
 grow_packet None sequence picture gs s b = s
-grow_packet (Some newest) sequence picture gs s b = grow_number newest (number_of newest sequence) picture gs s b
+grow_packet (Some newest) sequence picture gs s b = grow_number newest (counted_number newest sequence) picture gs s b
 
 grow_by : (m : Moment) (newest : ℕ) (gs : List Gap) (o : Option Gap) → Increasing gs
     → Increasing (told_from m newest gs o)
@@ -88,12 +88,13 @@ grow_asking : (m : Moment) (o : Option ℕ) (gs : List Gap) → Increasing gs �
 grow_asking m None gs s = s
 grow_asking m (Some newest) gs s = grow_by m newest gs (find (may_ask m newest) gs) s
 
-grow : (past : List Event) → Increasing (kept_of past).gaps
+grow : (past : List GapEvent) → Increasing (kept_gaps_after past).gaps
 grow [] = tt
 grow (Came sequence picture ∷ past) =
-    grow_packet (kept_of past).newest sequence picture (kept_of past).gaps (grow past) (below_newest past)
-grow (Played next ∷ past) = grow_filter (λ g. leb next g.picture) (kept_of past).gaps (grow past)
-grow (Asked m ∷ past) = grow_asking m (kept_of past).newest (kept_of past).gaps (grow past)
+    grow_packet (kept_gaps_after past).newest sequence picture (kept_gaps_after past).gaps (grow past)
+    (below_newest past)
+grow (Played next ∷ past) = grow_filter (λ g. leb next g.picture) (kept_gaps_after past).gaps (grow past)
+grow (Asked m ∷ past) = grow_asking m (kept_gaps_after past).newest (kept_gaps_after past).gaps (grow past)
 
 -- ---- which are asked for
 
@@ -176,13 +177,13 @@ new_sound times picture number e =
     (record { counted = omega arith; latest = λ h. tt })
 
 fine_number : (number : ℕ) (times : List ℕ) (newest k picture : ℕ) (gs : List Gap) → Fine number times (Some newest) gs
-    → Fine number times (Some (newest_after newest k)) (after_number newest k picture gs)
+    → Fine number times (Some (newest_number_after newest k)) (after_number newest k picture gs)
 fine_number number times newest k picture gs s =
     record {
       few = s.few;
       fresh = cond_both (ltb newest k) k newest (λ n. n < number → times ≡ [])
           (λ e h. s.fresh (less newest k number (ltb-true newest k e) h)) (λ e h. s.fresh h);
-      counts = cond_both (ltb newest k) (last_of 64 (gs ++ new)) (filter (λ g. not (eqb g.number k)) gs)
+      counts = cond_both (ltb newest k) (last_gaps 64 (gs ++ new)) (filter (λ g. not (eqb g.number k)) gs)
           (Counts number times)
           (λ e. all_drop P (length (gs ++ new) - 64) (gs ++ new)
           (all_append P gs new s.counts
@@ -202,11 +203,11 @@ fine_number number times newest k picture gs s =
 
 fine_packet : (number : ℕ) (times : List ℕ) (o : Option ℕ) (sequence picture : ℕ) (gs : List Gap)
     → Fine number times o gs
-    → Fine number times (newest_after_packet o sequence) (after_packet o sequence picture gs)
+    → Fine number times (newest_after_packet o sequence) (gaps_after_packet o sequence picture gs)
 fine_packet number times None sequence picture gs s =
     record { few = s.few; fresh = λ h. s.fresh; counts = s.counts }
 fine_packet number times (Some newest) sequence picture gs s =
-    fine_number number times newest (number_of newest sequence) picture gs s
+    fine_number number times newest (counted_number newest sequence) picture gs s
 
 none_of : (times : List ℕ) → length times ≤ 0 → times ≡ []
 none_of [] h = refl
@@ -230,17 +231,17 @@ sound_again b time times g few s =
       latest = λ h. subst (AllByRecursion (λ t. t ≡ time)) (sym (none_of times (omega (arith, c, h, few)))) tt;
     })
 
-waits : (m : Moment) (newest first : ℕ) (g : Gap) → is_told m newest first g ≡ true → Waited m g
+waits : (m : Moment) (newest first : ℕ) (g : Gap) → is_in_nack m newest first g ≡ true → Waited m g
 waits m newest first g e = has_not m g (asked_parts m newest g (told_may m newest first g e)).0
 
 -- the times after a field with this PID
 abbrev TimesAfter : ℕ → List ℕ → Moment → ℕ → ℕ → List Gap → List ℕ
 TimesAfter number times m newest first gs =
-    cond (has_number number (filter (is_told m newest first) gs)) (m.time ∷ times) times
+    cond (has_number number (filter (is_in_nack m newest first) gs)) (m.time ∷ times) times
 
 counts_told : (number : ℕ) (times : List ℕ) (m : Moment) (newest first : ℕ) (b : Bool) (gs : List Gap)
     → AllByRecursion (λ g. g.number ≡ number → Sound times g) gs
-    → AllByRecursion (λ g. g.number ≡ number → is_told m newest first g ≡ false → b ≡ false) gs
+    → AllByRecursion (λ g. g.number ≡ number → is_in_nack m newest first g ≡ false → b ≡ false) gs
     → Counts number (cond b (m.time ∷ times) times) (map (when_told m newest first) gs)
 counts_told number times m newest first b [] s t = tt
 counts_told number times m newest first b (g ∷ gs) s t =
@@ -248,7 +249,7 @@ counts_told number times m newest first b (g ∷ gs) s t =
   where
     one : g.number ≡ number → Sound (cond b (m.time ∷ times) times) (when_told m newest first g)
     one d =
-        cond_both (is_told m newest first g) (asked_again m.time g) g (λ x. Sound (cond b (m.time ∷ times) times) x)
+        cond_both (is_in_nack m newest first g) (asked_again m.time g) g (λ x. Sound (cond b (m.time ∷ times) times) x)
         (λ e. sound_again b m.time times g (waits m newest first g e).once (s.0 d))
         (λ e. subst (λ (c : Bool). Sound (cond c (m.time ∷ times) times) g) (sym (t.0 d e)) (s.0 d))
 
@@ -256,7 +257,7 @@ fine_told : (number : ℕ) (times : List ℕ) (m : Moment) (newest first : ℕ) 
     → Fine number times (Some newest) gs → Increasing gs → AllByRecursion (λ g. g.number < newest) gs
     → Fine number (TimesAfter number times m newest first gs) (Some newest) (map (when_told m newest first) gs)
 fine_told number times m newest first gs s i below =
-    let p = is_told m newest first in
+    let p = is_in_nack m newest first in
     let b = has_number number (filter p gs) in
     record {
       few = cond_both b (m.time ∷ times) times (λ ts. length ts ≤ 2)
@@ -279,23 +280,23 @@ fine_told number times m newest first gs s i below =
 
 fine_by : (number : ℕ) (times : List ℕ) (m : Moment) (newest : ℕ) (gs : List Gap) (o : Option Gap)
     → Fine number times (Some newest) gs → Increasing gs → AllByRecursion (λ g. g.number < newest) gs
-    → Fine number (cond (has_number number (told_by m newest gs o)) (m.time ∷ times) times) (Some newest)
+    → Fine number (cond (has_number number (gaps_told_by m newest gs o)) (m.time ∷ times) times) (Some newest)
     (told_from m newest gs o)
 fine_by number times m newest gs None s i below = s
 fine_by number times m newest gs (Some x) s i below = fine_told number times m newest x.number gs s i below
 
 fine_asking : (number : ℕ) (times : List ℕ) (m : Moment) (o : Option ℕ) (gs : List Gap)
     → Fine number times o gs → Increasing gs → BelowIn o gs
-    → Fine number (cond (has_number number (told_of m o gs)) (m.time ∷ times) times) o (after_asking m o gs)
+    → Fine number (cond (has_number number (gaps_asked_for m o gs)) (m.time ∷ times) times) o (after_asking m o gs)
 fine_asking number times m None gs s i below = s
 fine_asking number times m (Some newest) gs s i below =
     fine_by number times m newest gs (find (may_ask m newest) gs) s i below
 
-fine : (number : ℕ) (past : List Event)
-    → Fine number (asked_at number past) (kept_of past).newest (kept_of past).gaps
+fine : (number : ℕ) (past : List GapEvent)
+    → Fine number (asked_at number past) (kept_gaps_after past).newest (kept_gaps_after past).gaps
 fine number [] = record { few = omega arith; fresh = refl; counts = tt }
 fine number (Came sequence picture ∷ past) =
-    fine_packet number (asked_at number past) (kept_of past).newest sequence picture (kept_of past).gaps
+    fine_packet number (asked_at number past) (kept_gaps_after past).newest sequence picture (kept_gaps_after past).gaps
     (fine number past)
 fine number (Played next ∷ past) =
     let s = fine number past in
@@ -303,13 +304,14 @@ fine number (Played next ∷ past) =
       few = s.few;
       fresh = s.fresh;
       counts = all_filter (λ g. g.number ≡ number → Sound (asked_at number past) g) (λ g. leb next g.picture)
-          (kept_of past).gaps s.counts;
+          (kept_gaps_after past).gaps s.counts;
     }
 fine number (Asked m ∷ past) =
-    fine_asking number (asked_at number past) m (kept_of past).newest (kept_of past).gaps (fine number past) (grow past)
+    fine_asking number (asked_at number past) m (kept_gaps_after past).newest (kept_gaps_after past).gaps
+    (fine number past) (grow past)
     (below_newest past)
 
-pub twice : (past : List Event) (number : ℕ) → length (asked_at number past) ≤ 2
+pub twice : (past : List GapEvent) (number : ℕ) → length (asked_at number past) ≤ 2
 twice past number =
     let s = fine number past in
     s.few
@@ -333,25 +335,25 @@ since_last m times g w s =
     (cases_lt 0 g.asked)
 
 apart_by : (number : ℕ) (times : List ℕ) (m : Moment) (newest : ℕ) (gs : List Gap) (o : Option Gap)
-    → Counts number times gs → has_number number (told_by m newest gs o) ≡ true
+    → Counts number times gs → has_number number (gaps_told_by m newest gs o) ≡ true
     → AllByRecursion (λ t. m.round_trip ≤ m.time - t) times
 apart_by number times m newest gs None s e = absurd (false≢true e)
 apart_by number times m newest gs (Some x) s e =
-    let p = is_told m newest x.number in
+    let p = is_in_nack m newest x.number in
     let Q = AllByRecursion (λ t. m.round_trip ≤ m.time - t) times in
     some_chosen Q number p gs
     (all_with (λ g. g.number ≡ number → Sound times g) (λ g. g.number ≡ number → p g ≡ true → Q)
     (λ g f d t. since_last m times g (waits m newest x.number g t) (f d)) gs s) e
 
 apart_in : (number : ℕ) (times : List ℕ) (m : Moment) (o : Option ℕ) (gs : List Gap) → Counts number times gs
-    → has_number number (told_of m o gs) ≡ true → AllByRecursion (λ t. m.round_trip ≤ m.time - t) times
+    → has_number number (gaps_asked_for m o gs) ≡ true → AllByRecursion (λ t. m.round_trip ≤ m.time - t) times
 apart_in number times m None gs s e = absurd (false≢true e)
 apart_in number times m (Some newest) gs s e =
     apart_by number times m newest gs (find (may_ask m newest) gs) s e
 
-pub apart : (past : List Event) (m : Moment) (number : ℕ)
-    → has_number number (told_of m (kept_of past).newest (kept_of past).gaps) ≡ true
+pub apart : (past : List GapEvent) (m : Moment) (number : ℕ)
+    → has_number number (gaps_asked_for m (kept_gaps_after past).newest (kept_gaps_after past).gaps) ≡ true
     → AllByRecursion (λ t. m.round_trip ≤ m.time - t) (asked_at number past)
 apart past m number e =
     let s = fine number past in
-    apart_in number (asked_at number past) m (kept_of past).newest (kept_of past).gaps s.counts e
+    apart_in number (asked_at number past) m (kept_gaps_after past).newest (kept_gaps_after past).gaps s.counts e

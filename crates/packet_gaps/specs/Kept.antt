@@ -5,8 +5,8 @@ use Rattle.packet_gaps.specs.declared.gap.Gap.{Gap}
 use Rattle.packet_gaps.specs.declared.gaps.Gaps.{Gaps}
 use Rattle.packet_gaps.specs.declared.gaps.Nack.{Nack}
 use Rattle.packet_gaps.specs.declared.moment.Moment.{Moment}
-use Rattle.packet_gaps.specs.Asking.{after_asking, nack_of, told_of}
-use Rattle.packet_gaps.specs.Missing.{after_packet, after_play, newest_after_packet, number_of}
+use Rattle.packet_gaps.specs.Asking.{after_asking, nack_of, gaps_asked_for}
+use Rattle.packet_gaps.specs.Missing.{gaps_after_packet, gaps_after_play, newest_after_packet, counted_number}
 
 -- the newest packet's number, and the gaps, as `Gaps` has them
 pub record Kept : Type 0 where
@@ -15,51 +15,51 @@ pub record Kept : Type 0 where
 
 -- a packet came of this picture; the pictures before this one were played; it was asked once what to
 -- ask for
-pub data Event : Type 0 where
-  Came : (sequence picture : ℕ) → Event
-  Played : (next : ℕ) → Event
-  Asked : (m : Moment) → Event
+pub data GapEvent : Type 0 where
+  Came : (sequence picture : ℕ) → GapEvent
+  Played : (next : ℕ) → GapEvent
+  Asked : (m : Moment) → GapEvent
 
 -- as each call's contract has it
-abbrev pub after : Kept → Event → Kept
-after k (Came sequence picture) =
+abbrev pub gap_state_after : Kept → GapEvent → Kept
+gap_state_after k (Came sequence picture) =
     record {
       newest = newest_after_packet k.newest sequence;
-      gaps = after_packet k.newest sequence picture k.gaps;
+      gaps = gaps_after_packet k.newest sequence picture k.gaps;
     }
-after k (Played next) = record { newest = k.newest; gaps = after_play next k.gaps }
-after k (Asked m) = record { newest = k.newest; gaps = after_asking m k.newest k.gaps }
+gap_state_after k (Played next) = record { newest = k.newest; gaps = gaps_after_play next k.gaps }
+gap_state_after k (Asked m) = record { newest = k.newest; gaps = after_asking m k.newest k.gaps }
 
 -- after these events, the newest first
-abbrev pub kept_of : List Event → Kept
-kept_of [] = record { newest = None; gaps = [] }
-kept_of (e ∷ past) = after (kept_of past) e
+abbrev pub kept_gaps_after : List GapEvent → Kept
+kept_gaps_after [] = record { newest = None; gaps = [] }
+kept_gaps_after (e ∷ past) = gap_state_after (kept_gaps_after past) e
 
 -- these events came of it, the newest first
-pub record GapsStand (g : Gaps) (past : List Event) : Type 0 where
-  pub newest : g.newest ≡ (kept_of past).newest
-  pub gaps : g.gaps.items ≡ (kept_of past).gaps
+pub record GapsStand (g : Gaps) (past : List GapEvent) : Type 0 where
+  pub newest : g.newest ≡ (kept_gaps_after past).newest
+  pub gaps : g.gaps.items ≡ (kept_gaps_after past).gaps
 
 -- what it asks for, then
-abbrev pub asks : Moment → List Event → Option Nack
-asks m past = nack_of m (kept_of past).newest (kept_of past).gaps
+abbrev pub asks : Moment → List GapEvent → Option Nack
+asks m past = nack_of m (kept_gaps_after past).newest (kept_gaps_after past).gaps
 
 -- ---- the packets that came
 
-abbrev pub number_after : Option ℕ → ℕ → ℕ
-number_after None sequence = 65536 + sequence
-number_after (Some newest) sequence = number_of newest sequence
+abbrev pub counted_on : Option ℕ → ℕ → ℕ
+counted_on None sequence = 65536 + sequence
+counted_on (Some newest) sequence = counted_number newest sequence
 
 -- each by its number, counted on, and its picture
-abbrev pub packets_of : List Event → List (ℕ × ℕ)
-packets_of [] = []
-packets_of (Came sequence picture ∷ past) =
-    (number_after (kept_of past).newest sequence, picture) ∷ packets_of past
-packets_of (Played next ∷ past) = packets_of past
-packets_of (Asked m ∷ past) = packets_of past
+abbrev pub counted_packets : List GapEvent → List (ℕ × ℕ)
+counted_packets [] = []
+counted_packets (Came sequence picture ∷ past) =
+    (counted_on (kept_gaps_after past).newest sequence, picture) ∷ counted_packets past
+counted_packets (Played next ∷ past) = counted_packets past
+counted_packets (Asked m ∷ past) = counted_packets past
 
-abbrev pub came_of : List Event → List ℕ
-came_of past = map (λ p. p.0) (packets_of past)
+abbrev pub came_of : List GapEvent → List ℕ
+came_of past = map (λ p. p.0) (counted_packets past)
 
 -- ---- the packets that were asked for
 
@@ -68,11 +68,11 @@ abbrev pub has_number : ℕ → List Gap → Bool
 has_number number gaps = list_any (λ g. g.number == number) gaps
 
 -- when this one was asked for, the last time first
-abbrev pub asked_at : ℕ → List Event → List ℕ
+abbrev pub asked_at : ℕ → List GapEvent → List ℕ
 asked_at number [] = []
 asked_at number (Came sequence picture ∷ past) = asked_at number past
 asked_at number (Played next ∷ past) = asked_at number past
 asked_at number (Asked m ∷ past) =
-    if has_number number (told_of m (kept_of past).newest (kept_of past).gaps)
+    if has_number number (gaps_asked_for m (kept_gaps_after past).newest (kept_gaps_after past).gaps)
     then m.time ∷ asked_at number past
     else asked_at number past

@@ -1,6 +1,6 @@
 //! A packet that is missing.
 ghost use Rattle.std.specs.Prelude.{◌≡◌, ◌+◌, ◌==◌};
-ghost use Rattle.packet_gaps.specs.Asking.{asked_again, has_waited, is_asked_gap, is_named, is_told, may_ask, when_told};
+ghost use Rattle.packet_gaps.specs.Asking.{asked_again, has_waited, is_asked_gap, is_behind_newest, is_in_nack, may_ask, when_told};
 
 use crate::moment::Moment;
 
@@ -30,7 +30,7 @@ impl Gap {
 
     // Whether its 16 bits mean it alone.
     fn is_named(&self, newest: u64) -> bool
-        ensures { result ≡ is_named newest self.now }
+        ensures { result ≡ is_behind_newest newest self.now }
     {
         newest.saturating_sub(self.number) < 32_768
     }
@@ -83,7 +83,7 @@ impl Gap {
 
     // Whether a field asks for it whose PID is this number.
     fn is_told(&self, moment: &Moment, newest: u64, first: u64) -> bool
-        ensures { result ≡ is_told moment.now newest first self.now }
+        ensures { result ≡ is_in_nack moment.now newest first self.now }
     {
         if self.number < first {
             return false;

@@ -1,8 +1,8 @@
 //! The packets that are missing.
 ghost use Rattle.std.specs.Prelude.{◌≡◌, ◌∷◌, List, [], None};
 ghost use Rattle.packet_gaps.specs.Asking.{after_asking, nack_of};
-ghost use Rattle.packet_gaps.specs.Kept.{Asked, Came, Event, GapsStand, Played, asks};
-ghost use Rattle.packet_gaps.specs.Missing.{after_packet, after_play, newest_after_packet};
+ghost use Rattle.packet_gaps.specs.Kept.{Asked, Came, GapEvent, GapsStand, Played, asks};
+ghost use Rattle.packet_gaps.specs.Missing.{gaps_after_packet, gaps_after_play, newest_after_packet};
 
 use crate::asking::{first_of, following, told};
 use crate::gap::Gap;
@@ -45,8 +45,8 @@ impl Gaps {
     pub fn arrived(&mut self, sequence: u16, picture: u32)
         ensures newest { self.new.newest ≡ newest_after_packet self.old.newest sequence }
         ensures gaps { self.new.gaps.items
-            ≡ after_packet self.old.newest sequence picture self.old.gaps.items }
-        ensures stands { (past : List Event) → GapsStand self.old past
+            ≡ gaps_after_packet self.old.newest sequence picture self.old.gaps.items }
+        ensures stands { (past : List GapEvent) → GapsStand self.old past
             → GapsStand self.new (Came sequence picture ∷ past) }
     {
         let Some(newest) = self.newest else {
@@ -65,8 +65,8 @@ impl Gaps {
     /// The pictures before this one were played: their packets are needed no more.
     pub fn played(&mut self, next: u32)
         ensures newest { self.new.newest ≡ self.old.newest }
-        ensures gaps { self.new.gaps.items ≡ after_play next self.old.gaps.items }
-        ensures stands { (past : List Event) → GapsStand self.old past
+        ensures gaps { self.new.gaps.items ≡ gaps_after_play next self.old.gaps.items }
+        ensures stands { (past : List GapEvent) → GapsStand self.old past
             → GapsStand self.new (Played next ∷ past) }
     {
         self.gaps = played(self.gaps.as_slice(), next);
@@ -79,8 +79,8 @@ impl Gaps {
         ensures nack { result ≡ nack_of moment.now self.old.newest self.old.gaps.items }
         ensures gaps { self.new.gaps.items
             ≡ after_asking moment.now self.old.newest self.old.gaps.items }
-        ensures answer { (past : List Event) → GapsStand self.old past → result ≡ asks moment.now past }
-        ensures stands { (past : List Event) → GapsStand self.old past
+        ensures answer { (past : List GapEvent) → GapsStand self.old past → result ≡ asks moment.now past }
+        ensures stands { (past : List GapEvent) → GapsStand self.old past
             → GapsStand self.new (Asked moment.now ∷ past) }
     {
         let newest = self.newest?;

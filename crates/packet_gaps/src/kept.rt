@@ -1,14 +1,14 @@
 //! Which gaps are kept.
 ghost use Rattle.std.specs.Prelude.{◌≡◌, ◌+◌, ◌-◌, ◌<◌, ◌≤◌, ◌^◌, ◌==◌, ◌++◌, not, nat_le, length, map, filter};
 ghost use Rattle.arrayvec.specs.ArrayVec.{array_vec_len};
-ghost use Rattle.packet_gaps.specs.Missing.{after_number, after_play, gap_of, last_of, number_of, numbers_from};
+ghost use Rattle.packet_gaps.specs.Missing.{after_number, gaps_after_play, gap_of, last_gaps, counted_number, numbers_from};
 
 use crate::gap::Gap;
 use arrayvec::ArrayVec;
 
 /// A packet's number, counted on.
 pub fn number_of(newest: u64, sequence: u16) -> u64
-    ensures { result ≡ number_of newest sequence }
+    ensures { result ≡ counted_number newest sequence }
 {
     let ahead = (sequence as u64 + 65_536 - newest % 65_536) % 65_536;
     if ahead < 32_768 {
@@ -21,7 +21,7 @@ pub fn number_of(newest: u64, sequence: u16) -> u64
 // The last so many.
 fn last_of(gaps: &[Gap], room: usize) -> ArrayVec<Gap, 64>
     requires { room ≤ 64 }
-    ensures items { result.items ≡ last_of room gaps.now }
+    ensures items { result.items ≡ last_gaps room gaps.now }
     ensures room { array_vec_len result ≤ room }
 {
     let mut kept = ArrayVec::new();
@@ -75,7 +75,7 @@ pub fn without(gaps: &[Gap], number: u64) -> ArrayVec<Gap, 64>
 /// Without those of pictures before this one.
 pub fn played(gaps: &[Gap], next: u32) -> ArrayVec<Gap, 64>
     requires { length gaps.now ≤ 64 }
-    ensures { result.items ≡ after_play next gaps.now }
+    ensures { result.items ≡ gaps_after_play next gaps.now }
 {
     let mut kept = ArrayVec::new();
     for gap in gaps {

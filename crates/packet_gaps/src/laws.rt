@@ -1,5 +1,5 @@
 //! Laws of the gaps, over the definitions alone.
-ghost use Rattle.packet_gaps.specs.Laws.{Apart, Ends, Few, InTime, Missing, Named, OfLater, Twice};
+ghost use Rattle.packet_gaps.specs.Laws.{Apart, Ends, Few, AsksInTime, Missing, Named, OfLater, Twice};
 
 /// No packet with a gap's number came, but one before it did, and one after it.
 pub fn missing()
@@ -18,7 +18,7 @@ pub fn few()
 
 /// Nothing is asked for that can't come before its picture is due.
 pub fn in_time()
-    ensures { InTime }
+    ensures { AsksInTime }
 {}
 
 /// No packet is asked for a third time.

@@ -5,7 +5,7 @@ use Rattle.std.specs.Prelude.{slice_get}
 use Rattle.std.proofs.lemmas.Bool.{cases_Bool, cond-true, cond-false, eq-eqb, eqb-false, eqb-true, ne_eqb, leb-true}
 use Rattle.packet_repeats.specs.Sent.{ArePlaces, if_numbered, may_stay, may_stay_at, last_at, sequence_number_of}
 use Rattle.packet_repeats.specs.Keeping.{bytes_or_none}
-use Rattle.packet_repeats.specs.Laws.{AreNext, Bounded, StillKept, Newest, Sent, may_stay_as}
+use Rattle.packet_repeats.specs.Laws.{AreNext, Bounded, StillKept, Newest, FindsSent, may_stay_as}
 use Rattle.packet_repeats.proofs.Places.{find_passes, kept_at}
 use Rattle.packet_repeats.proofs.Rows.{bounded as few_places, other_remainder, remainder_kept}
 
@@ -86,7 +86,7 @@ kept_short longest x e =
       | inr short ↦ absurd cc
     ]
 
-pub sent : Sent
+pub sent : FindsSent
 sent places longest sequence list x e =
     let remainder = sequence % places in
     let told = numbered sequence (last_at places longest remainder list) x e in

@@ -22,8 +22,8 @@ pub record WasSent (longest sequence : ℕ) (sent : List (List ℕ)) (packet : L
   pub numbered : sequence_number_of packet ≡ sequence
   pub short : length packet ≤ longest
 
-abbrev pub Sent : Type 0
-Sent =
+abbrev pub FindsSent : Type 0
+FindsSent =
     (places longest sequence : ℕ) (sent : List (List ℕ)) (packet : List ℕ)
     → found_packet places longest sequence sent ≡ Some packet → WasSent longest sequence sent packet
 

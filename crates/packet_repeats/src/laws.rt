@@ -1,5 +1,5 @@
 //! Laws of the packets that are found, over the definitions alone.
-ghost use Rattle.packet_repeats.specs.Laws.{Bounded, Newest, Sent, StillKept};
+ghost use Rattle.packet_repeats.specs.Laws.{Bounded, Newest, FindsSent, StillKept};
 
 /// What is found is the newest packet with its number.
 pub fn newest()
@@ -8,7 +8,7 @@ pub fn newest()
 
 /// What is found was sent, byte for byte, with this number.
 pub fn sent()
-    ensures { Sent }
+    ensures { FindsSent }
 {}
 
 /// Of packets with numbers that follow one another each is found while it is among the last `count`.

@@ -16,17 +16,18 @@ use Rattle.picture_header.specs.Text.{header, opening, plus_type, allowed_format
 use Rattle.rtp_header.specs.Faults.{rtp_in}
 use Rattle.h263_payload.specs.declared.payload.Payload.{Payload}
 use Rattle.h263_payload.specs.Text.{leading, IsExtra, IsPayload}
-use Rattle.h263_payload.specs.Faults.{payload_at, payload_bits_of, extra_at, begun_as, begun_at, filled, first_bits, fault_at}
-use Rattle.packet_collector.specs.Packet.{Slice, data_of, headed_at, with_header, slice_after, packet_at}
-use Rattle.packet_start.specs.Start.{alone, start_at, or_else, start_in}
+use Rattle.h263_payload.specs.Faults.{payload_at, payload_bits_of, extra_at, begun_as, begun_at, filled, first_bits, payload_fault_at}
+use Rattle.packet_collector.specs.Packet.{PacketSlice, data_of, headed_at, with_header, slice_after, packet_at}
+use Rattle.packet_start.specs.Start.{header_alone, start_at, header_or_else, start_in}
 
 -- ---- the whole packet begins so
 
-with_ok : (h : Header) (r : Result (ℕ × List Mb) Fault) (s : Slice) → with_header h r ≡ Ok s → s.header ≡ h
-with_ok h (Ok x) s e = ap (λ (t : Slice). t.header) (sym (ok_is (record { header = h; first = x.0; mbs = x.1 }) s e))
+with_ok : (h : Header) (r : Result (ℕ × List Mb) Fault) (s : PacketSlice) → with_header h r ≡ Ok s → s.header ≡ h
+with_ok h (Ok x) s e = ap (λ (t : PacketSlice). t.header)
+    (sym (ok_is (record { header = h; first = x.0; mbs = x.1 }) s e))
 with_ok h (Err fault) s e = absurd cc
 
-pub starts_as_read : (format : Format) (bytes : List ℕ) (s : Slice) → packet_at format bytes ≡ Ok s
+pub starts_as_read : (format : Format) (bytes : List ℕ) (s : PacketSlice) → packet_at format bytes ≡ Ok s
     → start_at format bytes ≡ Ok s.header
 unfolding packet_at slice_after start_at
 starts_as_read format bytes s e =
@@ -50,7 +51,7 @@ record Started (format : Format) (bytes : List ℕ) (h : Header) : Type 0 where
   is_payload : payload_at format (payload_bits_of bytes rtp) ≡ Ok payload
   headed : headed_at format payload.extra (data_of bytes rtp payload) ≡ Ok (h, left)
 
-alone_ok : (r : Result (Header × Bits) Fault) (h : Header) → alone r ≡ Ok h → (left : Bits) × (r ≡ Ok (h, left))
+alone_ok : (r : Result (Header × Bits) Fault) (h : Header) → header_alone r ≡ Ok h → (left : Bits) × (r ≡ Ok (h, left))
 alone_ok (Ok x) h e = (x.1, ap (λ (y : Header). ok (y, x.1)) (ok_is x.0 h e))
 alone_ok (Err fault) h e = absurd cc
 
@@ -58,10 +59,10 @@ started : (format : Format) (bytes : List ℕ) (h : Header) → start_at format 
 unfolding start_at
 started format bytes h e =
     let one = bind_ok (rtp_in bytes) (λ r. payload_at format (payload_bits_of bytes r) >>=
-    λ p. alone (headed_at format p.extra (data_of bytes r p))) h e in
+    λ p. header_alone (headed_at format p.extra (data_of bytes r p))) h e in
     let r = one.0 in
     let two = bind_ok (payload_at format (payload_bits_of bytes r))
-    (λ p. alone (headed_at format p.extra (data_of bytes r p))) h one.2 in
+    (λ p. header_alone (headed_at format p.extra (data_of bytes r p))) h one.2 in
     let p = two.0 in
     let three = alone_ok (headed_at format p.extra (data_of bytes r p)) h two.2 in
     record { rtp = r; payload = p; left = three.0; is_rtp = one.1; is_payload = two.1; headed = three.1 }
@@ -191,8 +192,8 @@ one_extra a b plen pebit c m n p q = at (plen == 0) (nat_lt (length c.bits) (8 *
     w = first_bits (8 * plen - pebit) c
 
     at : (none short : Bool)
-        → cond none (ok None) (cond short (fault_at faults.Ended c.at) (filled (reading (header a) w))) ≡ Ok m
-        → cond none (ok None) (cond short (fault_at faults.Ended c.at) (filled (reading (header b) w))) ≡ Ok n
+        → cond none (ok None) (cond short (payload_fault_at faults.Ended c.at) (filled (reading (header a) w))) ≡ Ok m
+        → cond none (ok None) (cond short (payload_fault_at faults.Ended c.at) (filled (reading (header b) w))) ≡ Ok n
         → (a ≡ b) ⊎ ((m ≡ None) × (n ≡ None))
     at true short p q = inr (sym (ok_is None m p), sym (ok_is None n q))
     at false true p q = absurd cc
@@ -204,16 +205,17 @@ one_extra a b plen pebit c m n p q = at (plen == 0) (nat_lt (length c.bits) (8 *
 begun_extra : (extra : Option Header) (at start : ℕ) (p : Payload) → begun_as extra at start ≡ Ok p → p.extra ≡ extra
 begun_extra None at start p e = here (nat_lt start 2) (start == 2) e
   where
-    here : (t u : Bool) → cond t (fault_at faults.NoStart at)
+    here : (t u : Bool) → cond t (payload_fault_at faults.NoStart at)
         (cond u (ok (record { extra = None; begins = true; from = at }))
-        (fault_at {A = Payload} faults.NoExtraHeader at)) ≡ Ok p → p.extra ≡ None
+        (payload_fault_at {A = Payload} faults.NoExtraHeader at)) ≡ Ok p → p.extra ≡ None
     here true u e = absurd cc
     here false true e = ap (λ (x : Payload). x.extra)
         (sym (ok_is (record { extra = None; begins = true; from = at }) p e))
     here false false e = absurd cc
 begun_extra (Some h) at start p e = here (nat_lt start 2) (start == 2) e
   where
-    here : (t u : Bool) → cond t (fault_at faults.NoStart at) (cond u (fault_at {A = Payload} faults.ExtraHeader at)
+    here : (t u : Bool) → cond t (payload_fault_at faults.NoStart at)
+        (cond u (payload_fault_at {A = Payload} faults.ExtraHeader at)
         (ok (record { extra = Some h; begins = false; from = at }))) ≡ Ok p → p.extra ≡ Some h
     here true u e = absurd cc
     here false true e = absurd cc
@@ -272,7 +274,8 @@ one_format a b bytes h k e f =
 
 -- ---- what is found
 
-skipped : (r : Result Header Fault) (other : Option Header) → ((k : Header) → r ≡ Ok k → ⊥) → or_else r other ≡ other
+skipped : (r : Result Header Fault) (other : Option Header) → ((k : Header) → r ≡ Ok k → ⊥) → header_or_else r other
+    ≡ other
 skipped (Ok k) other none = absurd (none k refl)
 skipped (Err fault) other none = refl
 
@@ -305,7 +308,8 @@ found_of bytes h e = first (start_at SubQcif bytes) (start_at Qcif bytes) (start
 
     first : (r s t : Result Header Fault) → start_at SubQcif bytes ≡ r → start_at Qcif bytes ≡ s
         → start_at Cif bytes ≡ t
-        → or_else r (or_else s (result_ok t)) ≡ Some h → (format : Format) × (start_at format bytes ≡ Ok h)
+        → header_or_else r (header_or_else s (result_ok t)) ≡ Some h
+        → (format : Format) × (start_at format bytes ≡ Ok h)
     first (Ok x) s t p q u e = (SubQcif, p ∙ ap ok (some_is x h e))
     first (Err f) (Ok x) t p q u e = (Qcif, q ∙ ap ok (some_is x h e))
     first (Err f) (Err g) (Ok x) p q u e = (Cif, u ∙ ap ok (some_is x h e))

@@ -2,12 +2,12 @@
 ghost use Rattle.std.specs.Prelude.{◌≡◌, ◌↔◌, ℕ, List, Ok, Some};
 ghost use Rattle.h263_types.specs.declared.format.Format.{Format};
 ghost use Rattle.picture_header.specs.declared.header.Header.{Header};
-ghost use Rattle.packet_collector.specs.Packet.{Slice, packet_at};
+ghost use Rattle.packet_collector.specs.Packet.{PacketSlice, packet_at};
 ghost use Rattle.packet_start.specs.Start.{start_at, start_in};
 
 /// A packet that is read has the start that is read of it.
 pub fn starts_as_read()
-    ensures { (format : Format) (bytes : List ℕ) (s : Slice)
+    ensures { (format : Format) (bytes : List ℕ) (s : PacketSlice)
         → packet_at format bytes ≡ Ok s → start_at format bytes ≡ Ok s.header }
 {}
 

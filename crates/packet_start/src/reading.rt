@@ -5,7 +5,7 @@ ghost use Rattle.picture_header.specs.declared.header.Header.{Header};
 ghost use Rattle.picture_header.specs.Ranges.{IsHeader};
 ghost use Rattle.h263_payload.specs.Ranges.{IsExtraHeader};
 ghost use Rattle.packet_collector.specs.Packet.{headed_at};
-ghost use Rattle.packet_start.specs.Start.{alone, start_at, start_in};
+ghost use Rattle.packet_start.specs.Start.{header_alone, start_at, start_in};
 
 use crate::laws;
 use h263_bits::{BitReader, Fault};
@@ -19,7 +19,7 @@ fn read_after(bytes: &[u8], end: u32, payload: &Payload, format: Format) -> Resu
     requires order { payload.now.from ≤ end }
     requires within { end ≤ 8 * length bytes.now }
     requires extra { IsExtraHeader payload.now.extra }
-    ensures exact { result ≡ alone (headed_at format payload.now.extra
+    ensures exact { result ≡ header_alone (headed_at format payload.now.extra
         (bits_between bytes.now payload.now.from end)) }
     ensures range { IfOk result IsHeader }
 {

@@ -10,9 +10,9 @@ use Rattle.h263_bits.specs.Syntax.{IsIn}
 use Rattle.h263_types.specs.declared.format.Format.{Format}
 use Rattle.payload_join.specs.declared.took.Took.TheVariants as tooks
 use Rattle.payload_join.specs.Packet.{Packet, packet_in}
-use Rattle.payload_join.specs.Unit.{Held, packet_at}
-use Rattle.payload_join.specs.Run.{Joined, nothing_held, near, number_of, is_old, top_with, took_as, took, kept_from, with_packet, made_from, made, held_after_as, held_after, given_as, given, joined_by, join_run}
-use Rattle.payload_join.specs.Laws.{sequence_of, sequence_in, IsAmong, IsAnyOrder}
+use Rattle.payload_join.specs.Unit.{Held, held_packet}
+use Rattle.payload_join.specs.Run.{JoinedSoFar, nothing_held, near, joined_number, is_old, top_with, took_as, took, kept_from, with_packet, made_from, made, held_after_as, held_after, given_as, given, joined_by, join_run}
+use Rattle.payload_join.specs.Laws.{packet_sequence, sequence_in, IsAmong, IsAnyOrder}
 use Rattle.payload_join.proofs.Growing.{At, Grows, nothing, more_out}
 use Rattle.payload_join.proofs.Orders.{empty_from, window_same, near_is}
 
@@ -21,14 +21,15 @@ use Rattle.payload_join.proofs.Orders.{empty_from, window_same, near_is}
 abbrev pub one_held : ℕ → Packet → Held
 one_held x p = record { number = x; packet = p }
 
-pub kept_at : (top n : ℕ) (held : List Held) → top < n + 64 → packet_at (kept_from top held) n ≡ packet_at held n
-unfolding packet_at
+pub kept_at : (top n : ℕ) (held : List Held) → top < n + 64 → held_packet (kept_from top held) n ≡ held_packet held n
+unfolding held_packet
 kept_at top n [] lt = refl
 kept_at top n (h ∷ held) lt = at (nat_lt top (h.number + 64)) refl (h.number == n) refl (kept_at top n held lt)
   where
     at : (t : Bool) → nat_lt top (h.number + 64) ≡ t → (s : Bool) → (h.number == n) ≡ s
-        → packet_at (kept_from top held) n ≡ packet_at held n
-        → packet_at (cond t (h ∷ kept_from top held) (kept_from top held)) n ≡ cond s (Some h.packet) (packet_at held n)
+        → held_packet (kept_from top held) n ≡ held_packet held n
+        → held_packet (cond t (h ∷ kept_from top held) (kept_from top held)) n
+        ≡ cond s (Some h.packet) (held_packet held n)
     at true is true same more = rw same refl
     at true is false same more = rw same more
     at false is true same more =
@@ -39,14 +40,14 @@ kept_at top n (h ∷ held) lt = at (nat_lt top (h.number + 64)) refl (h.number =
         no_both f g = cc
     at false is false same more = more
 
-pub gone : (top n : ℕ) (held : List Held) → n + 64 ≤ top → packet_at (kept_from top held) n ≡ None
-unfolding packet_at
+pub gone : (top n : ℕ) (held : List Held) → n + 64 ≤ top → held_packet (kept_from top held) n ≡ None
+unfolding held_packet
 gone top n [] le = refl
 gone top n (h ∷ held) le = at (nat_lt top (h.number + 64)) refl (h.number == n) refl (gone top n held le)
   where
     at : (t : Bool) → nat_lt top (h.number + 64) ≡ t → (s : Bool) → (h.number == n) ≡ s
-        → packet_at (kept_from top held) n ≡ None
-        → packet_at (cond t (h ∷ kept_from top held) (kept_from top held)) n ≡ None
+        → held_packet (kept_from top held) n ≡ None
+        → held_packet (cond t (h ∷ kept_from top held) (kept_from top held)) n ≡ None
     at true is true same more =
         let e : h.number ≡ n = eqb-true h.number n same in
         let f : nat_lt top (h.number + 64) ≡ false = le-ltb top (h.number + 64) (omega arith) in absurd (no_both f is)
@@ -62,8 +63,8 @@ no_some p f = cc
 pub some_same : {A : Type 0} (p q : A) → Some p ≡ Some q → p ≡ q
 some_same p q e = cc
 
-kept_sub : (top n : ℕ) (held : List Held) (p : Packet) → packet_at (kept_from top held) n ≡ Some p
-    → packet_at held n ≡ Some p
+kept_sub : (top n : ℕ) (held : List Held) (p : Packet) → held_packet (kept_from top held) n ≡ Some p
+    → held_packet held n ≡ Some p
 kept_sub top n held p e =
     elim (cases_lt top (n + 64)) [
       | inl lt ↦ sym (kept_at top n held lt) ∙ e
@@ -80,35 +81,37 @@ record IsFrom (low : ℕ) (zs : List (List ℕ)) (n : ℕ) (p : Packet) : Type 0
   number : near low p.sequence ≡ n
 
 -- all that is held lies in 64 numbers from `low` on, and nothing was forgotten
-record IsRunOf (low : ℕ) (zs : List (List ℕ)) (s : Joined) : Type 0 where
+record IsRunOf (low : ℕ) (zs : List (List ℕ)) (s : JoinedSoFar) : Type 0 where
   tops : (t : ℕ) → s.top ≡ Some t → (low ≤ t) × (t < low + 64)
-  empty : s.top ≡ None → (n : ℕ) (p : Packet) → packet_at s.held n ≡ Some p → ⊥
-  from : (n : ℕ) (p : Packet) → packet_at s.held n ≡ Some p → low ≤ n
-  upto : (n t : ℕ) (p : Packet) → packet_at s.held n ≡ Some p → s.top ≡ Some t → n ≤ t
-  inside : (n : ℕ) (p : Packet) → packet_at s.held n ≡ Some p → IsFrom low zs n p
+  empty : s.top ≡ None → (n : ℕ) (p : Packet) → held_packet s.held n ≡ Some p → ⊥
+  from : (n : ℕ) (p : Packet) → held_packet s.held n ≡ Some p → low ≤ n
+  upto : (n t : ℕ) (p : Packet) → held_packet s.held n ≡ Some p → s.top ≡ Some t → n ≤ t
+  inside : (n : ℕ) (p : Packet) → held_packet s.held n ≡ Some p → IsFrom low zs n p
   there : (bytes : List ℕ) (p : Packet) → IsIn bytes zs → packet_in bytes ≡ Ok p
-      → packet_at s.held (near low p.sequence) ≡ Some p
+      → held_packet s.held (near low p.sequence) ≡ Some p
 
 -- a packet joins those of a run
-record IsNext (low : ℕ) (s : Joined) (z : List ℕ) (p : Packet) (x : ℕ) : Type 0 where
+record IsNext (low : ℕ) (s : JoinedSoFar) (z : List ℕ) (p : Packet) (x : ℕ) : Type 0 where
   read : packet_in z ≡ Ok p
   is : near low p.sequence ≡ x
   from : low ≤ x
   below : x < low + 64
-  number : number_of s.top p.sequence ≡ x
+  number : joined_number s.top p.sequence ≡ x
   young : is_old s.top x ≡ false
-  fresh : packet_at s.held x ≡ None
+  fresh : held_packet s.held x ≡ None
 
-held_is : (low : ℕ) (s : Joined) (z : List ℕ) (p : Packet) (x : ℕ) → IsNext low s z p x → took s (Ok p) ≡ tooks.Held
+held_is : (low : ℕ) (s : JoinedSoFar) (z : List ℕ) (p : Packet) (x : ℕ) → IsNext low s z p x
+    → took s (Ok p) ≡ tooks.Held
 held_is low s z p x n = ap (took_as s) n.number ∙ (rw (n.young, n.fresh) refl)
 
-state_is : (low : ℕ) (s : Joined) (z : List ℕ) (p : Packet) (x : ℕ) → IsNext low s z p x → held_after s (packet_in z)
+state_is : (low : ℕ) (s : JoinedSoFar) (z : List ℕ) (p : Packet) (x : ℕ) → IsNext low s z p x
+    → held_after s (packet_in z)
     ≡ with_packet s x p
 state_is low s z p x n =
     ap (held_after s) n.read ∙ ap (held_after_as s p) (held_is low s z p x n)
     ∙ ap (λ (k : ℕ). with_packet s k p) n.number
 
-given_is : (format : Format) (low : ℕ) (s : Joined) (z : List ℕ) (p : Packet) (x : ℕ) → IsNext low s z p x
+given_is : (format : Format) (low : ℕ) (s : JoinedSoFar) (z : List ℕ) (p : Packet) (x : ℕ) → IsNext low s z p x
     → given format s (packet_in z) ≡ made format s.held (with_packet s x p)
 given_is format low s z p x n =
     ap (given format s) n.read ∙ ap (given_as format s p) (held_is low s z p x n)
@@ -140,45 +143,47 @@ top_is low (Some top) x tops from below =
     }
 
 -- what is held then: the packet, and what was held
-found_at : (low : ℕ) (zs : List (List ℕ)) (s : Joined) (z : List ℕ) (p : Packet) (x m : ℕ) → IsRunOf low zs s
+found_at : (low : ℕ) (zs : List (List ℕ)) (s : JoinedSoFar) (z : List ℕ) (p : Packet) (x m : ℕ) → IsRunOf low zs s
     → IsNext low s z p x → low ≤ m
-    → packet_at (with_packet s x p).held m ≡ cond (x == m) (Some p) (packet_at s.held m)
-unfolding packet_at
+    → held_packet (with_packet s x p).held m ≡ cond (x == m) (Some p) (held_packet s.held m)
+unfolding held_packet
 found_at low zs s z p x m run n le =
     let t = top_is low s.top x run.tops n.from n.below in
     kept_at (top_with s.top x) m (one_held x p ∷ s.held) (omega (arith, t.below))
 
 -- and nothing else
-found_sub : (low : ℕ) (s : Joined) (p : Packet) (x m : ℕ) (q : Packet) → packet_at (with_packet s x p).held m ≡ Some q
-    → ((x ≡ m) × (p ≡ q)) ⊎ (packet_at s.held m ≡ Some q)
-unfolding packet_at
+found_sub : (low : ℕ) (s : JoinedSoFar) (p : Packet) (x m : ℕ) (q : Packet) → held_packet (with_packet s x p).held m
+    ≡ Some q
+    → ((x ≡ m) × (p ≡ q)) ⊎ (held_packet s.held m ≡ Some q)
+unfolding held_packet
 found_sub low s p x m q e = at (x == m) refl (kept_sub (top_with s.top x) m (one_held x p ∷ s.held) q e)
   where
-    at : (t : Bool) → (x == m) ≡ t → cond (x == m) (Some p) (packet_at s.held m) ≡ Some q
-        → ((x ≡ m) × (p ≡ q)) ⊎ (packet_at s.held m ≡ Some q)
+    at : (t : Bool) → (x == m) ≡ t → cond (x == m) (Some p) (held_packet s.held m) ≡ Some q
+        → ((x ≡ m) × (p ≡ q)) ⊎ (held_packet s.held m ≡ Some q)
     at true is f = inl (
       eqb-true x m is,
-      some_same p q (subst (λ (t : Bool). cond t (Some p) (packet_at s.held m)
+      some_same p q (subst (λ (t : Bool). cond t (Some p) (held_packet s.held m)
           ≡ Some q) is f),
     )
-    at false is f = inr (subst (λ (t : Bool). cond t (Some p) (packet_at s.held m) ≡ Some q) is f)
+    at false is f = inr (subst (λ (t : Bool). cond t (Some p) (held_packet s.held m) ≡ Some q) is f)
 
-apart : (s : Joined) (x m : ℕ) (q : Packet) → packet_at s.held x ≡ None → packet_at s.held m ≡ Some q → (x == m) ≡ false
+apart : (s : JoinedSoFar) (x m : ℕ) (q : Packet) → held_packet s.held x ≡ None → held_packet s.held m ≡ Some q
+    → (x == m) ≡ false
 apart s x m q fresh held = at (x == m) refl
   where
     at : (t : Bool) → (x == m) ≡ t → t ≡ false
-    at true is = let e : x ≡ m = eqb-true x m is in absurd (no_some q (sym fresh ∙ ap (packet_at s.held) e ∙ held))
+    at true is = let e : x ≡ m = eqb-true x m is in absurd (no_some q (sym fresh ∙ ap (held_packet s.held) e ∙ held))
     at false is = refl
 
-next_grows : (low : ℕ) (zs : List (List ℕ)) (s : Joined) (z : List ℕ) (p : Packet) (x : ℕ) → IsRunOf low zs s
-    → IsNext low s z p x → Grows (packet_at s.held) (packet_at (with_packet s x p).held)
+next_grows : (low : ℕ) (zs : List (List ℕ)) (s : JoinedSoFar) (z : List ℕ) (p : Packet) (x : ℕ) → IsRunOf low zs s
+    → IsNext low s z p x → Grows (held_packet s.held) (held_packet (with_packet s x p).held)
 next_grows low zs s z p x run n m q e = found_at low zs s z p x m run n (run.from m q e)
     ∙ (rw (apart s x m q n.fresh e) e)
 
 read_same : (p q : Packet) (r : Result Packet Fault) → r ≡ Ok p → r ≡ Ok q → p ≡ q
 read_same p q r e f = let g : (Ok p) ≡ (Ok q) = sym e ∙ f in cc
 
-next_run : (low : ℕ) (zs : List (List ℕ)) (s : Joined) (z : List ℕ) (p : Packet) (x : ℕ) → IsRunOf low zs s
+next_run : (low : ℕ) (zs : List (List ℕ)) (s : JoinedSoFar) (z : List ℕ) (p : Packet) (x : ℕ) → IsRunOf low zs s
     → IsNext low s z p x → IsRunOf low (z ∷ zs) (with_packet s x p)
 next_run low zs s z p x run n =
     let t = top_is low s.top x run.tops n.from n.below in
@@ -214,7 +219,7 @@ next_run low zs s z p x run n =
       there = λ b q listed read. listed_at b q listed read;
     }
   where
-    below_top : (m : ℕ) (q : Packet) → packet_at s.held m ≡ Some q → (top : ℕ) → IsTop low s.top x top → m ≤ top
+    below_top : (m : ℕ) (q : Packet) → held_packet s.held m ≡ Some q → (top : ℕ) → IsTop low s.top x top → m ≤ top
     below_top m q old top t = at s.top refl
       where
         at : (o : Option ℕ) → s.top ≡ o → m ≤ top
@@ -222,11 +227,11 @@ next_run low zs s z p x run n =
         at (Some k) is = omega (arith, run.upto m k q old is, t.past k is)
 
     listed_at : (b : List ℕ) (q : Packet) → IsIn b (z ∷ zs) → packet_in b ≡ Ok q
-        → packet_at (with_packet s x p).held (near low q.sequence) ≡ Some q
+        → held_packet (with_packet s x p).held (near low q.sequence) ≡ Some q
     listed_at b q (inl same) read =
         let e : p ≡ q = read_same p q (packet_in b) (ap packet_in (sym same) ∙ n.read) read in
         let at : near low q.sequence ≡ x = ap (λ (r : Packet). near low r.sequence) (sym e) ∙ n.is in
-        ap (packet_at (with_packet s x p).held) at ∙ found_at low zs s z p x x run n n.from
+        ap (held_packet (with_packet s x p).held) at ∙ found_at low zs s z p x x run n n.from
         ∙ (rw (eq-eqb x x refl) (ap (λ (r : Packet). Some r) e))
     listed_at b q (inr old) read =
         let e = run.there b q old read in
@@ -239,7 +244,7 @@ none_of None none = refl
 none_of (Some p) none = absurd (none p refl)
 
 nothing_run : (low : ℕ) → IsRunOf low [] nothing_held
-unfolding packet_at
+unfolding held_packet
 nothing_run low =
     record {
       tops = λ t e. absurd (no_some t e);
@@ -253,10 +258,10 @@ nothing_run low =
 -- all that went out is what goes out of the units that are whole in the end
 record Ran (format : Format) (low : ℕ) (zs : List (List ℕ)) : Type 0 where
   run : IsRunOf low zs (joined_by zs)
-  out : IsPermutation (join_run format zs) (made_from format nothing (packet_at (joined_by zs).held) (low - 63) 127)
+  out : IsPermutation (join_run format zs) (made_from format nothing (held_packet (joined_by zs).held) (low - 63) 127)
 
 nothing_ran : (format : Format) (low : ℕ) → Ran format low []
-unfolding joined_by join_run packet_at
+unfolding joined_by join_run held_packet
 nothing_ran format low =
     record {
       run = nothing_run low;
@@ -272,26 +277,26 @@ one_step format low zs z p x some ran n =
     let e = state_is low s z p x n in
     let run : IsRunOf low (z ∷ zs) (with_packet s x p) = next_run low zs s z p x ran.run n in
     let t = top_is low s.top x ran.run.tops n.from n.below in
-    let now : At = packet_at (with_packet s x p).held in
-    let window : made format s.held (with_packet s x p) ≡ made_from format (packet_at s.held) now (low - 63) 127 =
-    window_same format (packet_at s.held) now low (top_with s.top x) some t.from t.below
+    let now : At = held_packet (with_packet s x p).held in
+    let window : made format s.held (with_packet s x p) ≡ made_from format (held_packet s.held) now (low - 63) 127 =
+    window_same format (held_packet s.held) now low (top_with s.top x) some t.from t.below
     (λ m lt. none_of (now m) (λ q f. absurd (omega (arith, run.from m q f))))
     (λ m lt. none_of (now m) (λ q f. absurd (omega (arith, run.upto m (top_with s.top x) q f refl))))
     in
-    let given_so : given format s (packet_in z) ≡ made_from format (packet_at s.held) now (low - 63) 127 =
+    let given_so : given format s (packet_in z) ≡ made_from format (held_packet s.held) now (low - 63) 127 =
     given_is format low s z p x n ∙ window in
-    let before = made_from format nothing (packet_at s.held) (low - 63) 127 in
-    let made_now = made_from format (packet_at s.held) now (low - 63) 127 in
+    let before = made_from format nothing (held_packet s.held) (low - 63) 127 in
+    let made_now = made_from format (held_packet s.held) now (low - 63) 127 in
     let all : IsPermutation (join_run format zs ++ made_now) (made_from format nothing now (low - 63) 127) =
     IsPermutation-trans _ (before ++ made_now) _ (IsPermutation-append_left made_now (join_run format zs) before
     ran.out)
-    (IsPermutation-sym _ _ (more_out format (packet_at s.held) now (low - 63) 127
+    (IsPermutation-sym _ _ (more_out format (held_packet s.held) now (low - 63) 127
     (next_grows low zs s z p x ran.run n)))
     in
     record {
       run = subst (IsRunOf low (z ∷ zs)) (sym e) run;
-      out = subst (λ (u : Joined). IsPermutation (join_run format zs ++ given format s (packet_in z))
-          (made_from format nothing (packet_at u.held) (low - 63) 127)) (sym e)
+      out = subst (λ (u : JoinedSoFar). IsPermutation (join_run format zs ++ given format s (packet_in z))
+          (made_from format nothing (held_packet u.held) (low - 63) 127)) (sym e)
           (subst (λ (g : List (List ℕ)). IsPermutation (join_run format zs
           ++ g) (made_from format nothing now (low - 63) 127)) (sym given_so) all);
     }
@@ -305,7 +310,7 @@ near_same low a b p q e = omega arith
 -- a packet that comes first
 first_next : (low : ℕ) (z : List ℕ) (a : IsAmong low z) → a.packet.sequence + 65536 ≡ low + a.place
     → IsNext low nothing_held z a.packet (low + a.place)
-unfolding packet_at
+unfolding held_packet
 first_next low z a e =
     record {
       read = a.read;
@@ -318,9 +323,10 @@ first_next low z a e =
     }
 
 -- a later one, whose sequence number none of the others has
-later_next : (low : ℕ) (zs : List (List ℕ)) (s : Joined) (t : ℕ) (z : List ℕ) → IsRunOf low zs s → s.top ≡ Some t
+later_next : (low : ℕ) (zs : List (List ℕ)) (s : JoinedSoFar) (t : ℕ) (z : List ℕ) → IsRunOf low zs s → s.top ≡ Some t
     → 65536 ≤ low + 63 → (a : IsAmong low z)
-    → ((b : List ℕ) → IsIn b zs → IsAmong low b) → ((b : List ℕ) → IsIn b zs → sequence_of b ≡ sequence_of z → ⊥)
+    → ((b : List ℕ) → IsIn b zs → IsAmong low b) → ((b : List ℕ) → IsIn b zs → packet_sequence b ≡ packet_sequence z
+    → ⊥)
     → IsNext low s z a.packet (low + a.place)
 later_next low zs s t z run top high a among differ =
     let b = run.tops t top in
@@ -331,10 +337,10 @@ later_next low zs s t z run top high a among differ =
       is = is;
       from = omega arith;
       below = omega (arith, a.few);
-      number = ap (λ (o : Option ℕ). number_of o a.packet.sequence) top ∙ ap (near (t - 32768)) a.sequence
+      number = ap (λ (o : Option ℕ). joined_number o a.packet.sequence) top ∙ ap (near (t - 32768)) a.sequence
           ∙ near_is low t (low + a.place) high b.0 b.1 (omega arith) (omega (arith, a.few));
       young = ap (λ (o : Option ℕ). is_old o (low + a.place)) top ∙ lt-leb (low + a.place + 64) t (omega (arith, b.1));
-      fresh = none_of (packet_at s.held (low + a.place)) (λ q f. twice q (run.inside (low + a.place) q f) is);
+      fresh = none_of (held_packet s.held (low + a.place)) (λ q f. twice q (run.inside (low + a.place) q f) is);
     }
   where
     low_sequence : (b : List ℕ) (q : Packet) → IsAmong low b → packet_in b ≡ Ok q → q.sequence < 65536
@@ -353,23 +359,24 @@ later_next low zs s t z run top high a among differ =
 step_top : (low : ℕ) (zs : List (List ℕ)) (z : List ℕ) (p : Packet) (x : ℕ) → IsNext low (joined_by zs) z p x
     → (joined_by (z ∷ zs)).top ≡ Some (top_with (joined_by zs).top x)
 unfolding joined_by
-step_top low zs z p x n = ap (λ (u : Joined). u.top) (state_is low (joined_by zs) z p x n)
+step_top low zs z p x n = ap (λ (u : JoinedSoFar). u.top) (state_is low (joined_by zs) z p x n)
 
-differ_in : (n : ℕ) (zs : List (List ℕ)) (b : List ℕ) → AllByRecursion (λ y. nat_eq n y ≡ false) (map sequence_of zs)
-    → IsIn b zs → sequence_of b ≡ n → ⊥
+differ_in : (n : ℕ) (zs : List (List ℕ)) (b : List ℕ)
+    → AllByRecursion (λ y. nat_eq n y ≡ false) (map packet_sequence zs)
+    → IsIn b zs → packet_sequence b ≡ n → ⊥
 differ_in n [] b all listed e = listed
-differ_in n (z ∷ zs) b all (inl same) e = eqb-false n (sequence_of z) all.0 (sym e ∙ ap sequence_of (sym same))
+differ_in n (z ∷ zs) b all (inl same) e = eqb-false n (packet_sequence z) all.0 (sym e ∙ ap packet_sequence (sym same))
 differ_in n (z ∷ zs) b all (inr later) e = differ_in n zs b all.1 later e
 
-distinct_rest : (z : List ℕ) (zs : List (List ℕ)) → IsDistinct nat_eq (map sequence_of (z ∷ zs))
-    → IsDistinct nat_eq (map sequence_of zs)
+distinct_rest : (z : List ℕ) (zs : List (List ℕ)) → IsDistinct nat_eq (map packet_sequence (z ∷ zs))
+    → IsDistinct nat_eq (map packet_sequence zs)
 unfolding IsDistinct
 distinct_rest z zs h = h.1
 
-distinct_here : (z : List ℕ) (zs : List (List ℕ)) → IsDistinct nat_eq (map sequence_of (z ∷ zs)) → (b : List ℕ)
-    → IsIn b zs → sequence_of b ≡ sequence_of z → ⊥
+distinct_here : (z : List ℕ) (zs : List (List ℕ)) → IsDistinct nat_eq (map packet_sequence (z ∷ zs)) → (b : List ℕ)
+    → IsIn b zs → packet_sequence b ≡ packet_sequence z → ⊥
 unfolding IsDistinct
-distinct_here z zs h b listed e = differ_in (sequence_of z) zs b h.0 listed e
+distinct_here z zs h b listed e = differ_in (packet_sequence z) zs b h.0 listed e
 
 -- a run of these packets, and its greatest number
 record RanUp (format : Format) (low : ℕ) (zs : List (List ℕ)) : Type 0 where
@@ -380,7 +387,7 @@ record RanUp (format : Format) (low : ℕ) (zs : List (List ℕ)) : Type 0 where
 all_ran : (format : Format) (low : ℕ) (xs : List (List ℕ)) (first : List ℕ) (a : IsAmong low first)
     → a.packet.sequence + 65536 ≡ low + a.place → 65536 ≤ low + 63
     → ((b : List ℕ) → IsIn b (xs ++ first ∷ []) → IsAmong low b)
-    → IsDistinct nat_eq (map sequence_of (xs ++ first ∷ [])) → RanUp format low (xs ++ first ∷ [])
+    → IsDistinct nat_eq (map packet_sequence (xs ++ first ∷ [])) → RanUp format low (xs ++ first ∷ [])
 unfolding joined_by
 all_ran format low [] first a e high among distinct =
     let n = first_next low first a e in
@@ -418,12 +425,12 @@ in_moved xs ys b moves listed =
     (IsPermutation-sym xs ys moves) (λ k d lt. each_listed ys k d lt)) listed
 
 -- the same packets are found by the same numbers
-found_again : (low : ℕ) (zs ws : List (List ℕ)) (s u : Joined) → IsRunOf low zs s → IsRunOf low ws u
+found_again : (low : ℕ) (zs ws : List (List ℕ)) (s u : JoinedSoFar) → IsRunOf low zs s → IsRunOf low ws u
     → ((b : List ℕ) → IsIn b zs → IsIn b ws)
-    → (n : ℕ) (p : Packet) → packet_at s.held n ≡ Some p → packet_at u.held n ≡ Some p
+    → (n : ℕ) (p : Packet) → held_packet s.held n ≡ Some p → held_packet u.held n ≡ Some p
 found_again low zs ws s u r q moved n p e =
     let f = r.inside n p e in
-    subst (λ (m : ℕ). packet_at u.held m ≡ Some p) f.number (q.there f.bytes p (moved f.bytes f.listed) f.read)
+    subst (λ (m : ℕ). held_packet u.held m ≡ Some p) f.number (q.there f.bytes p (moved f.bytes f.listed) f.read)
 
 option_same : (o u : Option Packet) → ((p : Packet) → o ≡ Some p → u ≡ Some p)
     → ((p : Packet) → u ≡ Some p → o ≡ Some p) → o ≡ u
@@ -482,15 +489,15 @@ any_order format low first xs ys all distinct moves =
     let r = all_ran format new xs first first_among number high among distinct in
     let q = all_ran format new ys first first_among number high
     (λ b l. among b (in_moved ws zs b (IsPermutation-sym zs ws same) l))
-    (IsDistinct-IsPermutation nat_eq eqb_flips (map sequence_of zs) (map sequence_of ws)
-    (IsPermutation-map sequence_of zs ws same) distinct) in
-    let held : packet_at (joined_by zs).held ≡ packet_at (joined_by ws).held =
-    λ i n. option_same (packet_at (joined_by zs).held n) (packet_at (joined_by ws).held n)
+    (IsDistinct-IsPermutation nat_eq eqb_flips (map packet_sequence zs) (map packet_sequence ws)
+    (IsPermutation-map packet_sequence zs ws same) distinct) in
+    let held : held_packet (joined_by zs).held ≡ held_packet (joined_by ws).held =
+    λ i n. option_same (held_packet (joined_by zs).held n) (held_packet (joined_by ws).held n)
     (found_again new zs ws (joined_by zs) (joined_by ws) r.ran.run q.ran.run (λ b. in_moved zs ws b same) n)
     (found_again new ws zs (joined_by ws) (joined_by zs) q.ran.run r.ran.run
     (λ b. in_moved ws zs b (IsPermutation-sym zs ws same)) n) i
     in
-    IsPermutation-trans (join_run format zs) (made_from format nothing (packet_at (joined_by ws).held) (new - 63) 127)
+    IsPermutation-trans (join_run format zs) (made_from format nothing (held_packet (joined_by ws).held) (new - 63) 127)
     (join_run format ws)
     (subst (λ (at : At). IsPermutation (join_run format zs) (made_from format nothing at (new - 63) 127)) held
     r.ran.out)

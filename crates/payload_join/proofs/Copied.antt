@@ -17,11 +17,11 @@ use Rattle.picture_header.specs.declared.header.Header.{Header}
 use Rattle.picture_header.specs.Text.{opening, header, IsHeaderText}
 use Rattle.picture_header.specs.Laws.{HeaderLaws}
 use Rattle.rtp_header.specs.Text.{from_byte}
-use Rattle.h263_payload.specs.Text.{IsExtra, IsBegun}
+use Rattle.h263_payload.specs.Text.{IsExtra, IsStartCodeRest}
 use Rattle.slice_layer.specs.Head.{place, later_head}
 use Rattle.slice_layer.specs.Text.{IsSliceText}
 use Rattle.payload_join.specs.Packet.{Extra}
-use Rattle.payload_join.specs.Outgoing.{padded_bytes, copied, header_of, begins_picture}
+use Rattle.payload_join.specs.Outgoing.{padded_bytes, copied, header_copied, begins_picture}
 
 -- ---- the first two bits
 
@@ -44,7 +44,7 @@ header_begun format h text is =
     (_, is.3 ∙ ap (λ (t : List Bool). t ++ is.2) first)
 
 pub later_begun : (h : Header) (first : ℕ) (mbs : List Mb) (bits : List Bool) → IsSliceText h false first mbs bits
-    → IsBegun false bits
+    → IsStartCodeRest false bits
 unfolding later_head place Spells spelled
 later_begun h first mbs bits is =
     let at = is.opened.4 in
@@ -160,7 +160,7 @@ is_padded coded text rest e = elim (cases_lt 0 (length text % 8)) [
 
 -- the bytes of a header that begins these bytes, as an extra header
 pub record IsCopy (format : Format) (h : Header) (coded : List ℕ) (e : Extra) : Type 0 where
-  pub found : header_of format coded ≡ Some e
+  pub found : header_copied format coded ≡ Some e
   pub is : IsExtra format (length e.bytes) e.pebit (Some h) (bits_of e.bytes)
   pub few : length e.bytes < 64
   pub bits : e.pebit < 8
@@ -171,7 +171,7 @@ some_extra e = Some e
 pub is_copy : HeaderLaws → (format : Format) (h : Header) (coded : List ℕ) (text rest : List Bool)
     → IsHeaderText format h text → bits_of coded ≡ text ++ rest → length text ≤ 8 * 63
     → IsCopy format h coded (padded_bytes (length text) coded)
-unfolding header_of some_extra
+unfolding header_copied some_extra
 is_copy laws format h coded text rest is e short =
     let begun = header_begun format h text is in
     let some : 0 < length text = omega (arith, ap length begun.1) in

@@ -8,13 +8,13 @@ use Rattle.h263_types.specs.declared.format.Format.{Format}
 use Rattle.payload_join.specs.declared.took.Took.{Took}
 use Rattle.payload_join.specs.declared.took.Took.TheVariants as tooks
 use Rattle.payload_join.specs.Packet.{Packet, Extra, packet_in}
-use Rattle.payload_join.specs.Split.{starts, onto, split_of}
-use Rattle.payload_join.specs.Unit.{packet_at, unit_at}
-use Rattle.payload_join.specs.Outgoing.{begins_picture, begun_out, coded_from, each_out, header_of, no_extra, out_by, outgoing, outgoing_of, picture_out, unit_out}
-use Rattle.payload_join.specs.Run.{Joined, given, given_as, given_next, joined_by, made_from, made_one, made_up_to, number_of, took, with_packet}
+use Rattle.payload_join.specs.Split.{starts_code, byte_onto, split_of}
+use Rattle.payload_join.specs.Unit.{held_packet, unit_at}
+use Rattle.payload_join.specs.Outgoing.{begins_picture, begun_out, coded_from, each_out, header_copied, no_extra, out_by, outgoing, outgoing_of, picture_out, unit_out}
+use Rattle.payload_join.specs.Run.{JoinedSoFar, given, given_as, given_next, joined_by, made_from, made_one, made_up_to, joined_number, took, with_packet}
 use Rattle.payload_join.proofs.Growing.{At}
 
-onto_few : (byte : ℕ) (parts : List (List ℕ)) → length (onto byte parts) ≤ length parts + 1
+onto_few : (byte : ℕ) (parts : List (List ℕ)) → length (byte_onto byte parts) ≤ length parts + 1
 onto_few byte [] = omega arith
 onto_few byte (part ∷ parts) = omega arith
 
@@ -24,9 +24,9 @@ unfolding split_of
 parts_few [] = omega arith
 parts_few (a ∷ []) = omega arith
 parts_few (a ∷ b ∷ []) = omega arith
-parts_few (a ∷ b ∷ c ∷ bytes) = go (starts a b c) refl (parts_few (c ∷ bytes)) (parts_few (b ∷ c ∷ bytes))
+parts_few (a ∷ b ∷ c ∷ bytes) = go (starts_code a b c) refl (parts_few (c ∷ bytes)) (parts_few (b ∷ c ∷ bytes))
   where
-    go : (t : Bool) → starts a b c ≡ t → length (split_of (c ∷ bytes)) ≤ length (c ∷ bytes) + 1
+    go : (t : Bool) → starts_code a b c ≡ t → length (split_of (c ∷ bytes)) ≤ length (c ∷ bytes) + 1
         → length (split_of (b ∷ c ∷ bytes)) ≤ length (b ∷ c ∷ bytes) + 1
         → length (split_of (a ∷ b ∷ c ∷ bytes)) ≤ length (a ∷ b ∷ c ∷ bytes) + 1
     go true e cut whole = rw e (omega arith)
@@ -49,9 +49,9 @@ picture_few first coded (Some h) =
 
 begun_few : (format : Format) (first : Packet) (coded : List ℕ) (parts : List (List ℕ))
     → length (begun_out format first coded parts) ≤ length coded + 1
-begun_few format first coded [] = picture_few first coded (header_of format coded)
+begun_few format first coded [] = picture_few first coded (header_copied format coded)
 begun_few format first coded (part ∷ []) = omega arith
-begun_few format first coded (part ∷ next ∷ parts) = picture_few first coded (header_of format coded)
+begun_few format first coded (part ∷ next ∷ parts) = picture_few first coded (header_copied format coded)
 
 -- a unit gives as many packets as 65,400 bytes have parts
 unit_few : (format : Format) (first : Packet) (coded : List ℕ) → length (unit_out format first coded) ≤ 65401
@@ -101,14 +101,15 @@ up_to_few : (format : Format) (before now : At) (top : Option ℕ) → length (m
 up_to_few format before now None = omega arith
 up_to_few format before now (Some top) = let m = made_few format before now (top - 63) 64 in omega arith
 
-as_few : (format : Format) (s : Joined) (p : Packet) (t : Took) → length (given_as format s p t) ≤ 2 ^ 22
-as_few format s p tooks.Held = up_to_few format (packet_at s.held)
-    (packet_at (with_packet s (number_of s.top p.sequence) p).held) (with_packet s (number_of s.top p.sequence) p).top
+as_few : (format : Format) (s : JoinedSoFar) (p : Packet) (t : Took) → length (given_as format s p t) ≤ 2 ^ 22
+as_few format s p tooks.Held = up_to_few format (held_packet s.held)
+    (held_packet (with_packet s (joined_number s.top p.sequence) p).held)
+    (with_packet s (joined_number s.top p.sequence) p).top
 as_few format s p tooks.Old = omega arith
 as_few format s p tooks.Again = omega arith
 as_few format s p (tooks.Refused fault) = omega arith
 
-given_few : (format : Format) (s : Joined) (r : Result Packet Fault) → length (given format s r) ≤ 2 ^ 22
+given_few : (format : Format) (s : JoinedSoFar) (r : Result Packet Fault) → length (given format s r) ≤ 2 ^ 22
 given_few format s (Err fault) = omega arith
 given_few format s (Ok p) = as_few format s p (took s (Ok p))
 

@@ -14,9 +14,9 @@ use Rattle.h263_bits.specs.Bits.{spelled, number, bits_of, fields}
 use Rattle.h263_bits.specs.Syntax.{same_bit, reading}
 use Rattle.h263_bits.proofs.SyntaxLaws.{bits_of-append}
 use Rattle.byteorder.specs.Endian.{big_bytes}
-use Rattle.h263_payload.specs.Written.{opening_fields}
+use Rattle.h263_payload.specs.Written.{payload_opening_fields}
 use Rattle.payload_join.specs.Unit.{each_below}
-use Rattle.payload_join.specs.Outgoing.{bytes_in}
+use Rattle.h263_bits.specs.Bytes.{bytes_filled}
 use Rattle.payload_join.specs.Places.{put_at}
 use Rattle.payload_join.specs.Fronts.{front_by, end_as, header_end}
 use Rattle.payload_join.proofs.Growing.{each_at}
@@ -26,15 +26,15 @@ use Rattle.payload_join.proofs.Between.{take_put}
 -- bytes are found again in their bits
 pub bytes_again : ((n value : ℕ) → value < 2 ^ n → number (spelled n value) ≡ value)
     → ((n value : ℕ) → length (spelled n value) ≡ n)
-    → (bytes : List ℕ) → ((k : ℕ) → get_or bytes k 0 < 2 ^ 8) → bytes_in (length bytes) (bits_of bytes) ≡ bytes
-unfolding bytes_in bits_of
+    → (bytes : List ℕ) → ((k : ℕ) → get_or bytes k 0 < 2 ^ 8) → bytes_filled (length bytes) (bits_of bytes) ≡ bytes
+unfolding bytes_filled bits_of
 bytes_again again many [] fits = refl
 bytes_again again many (b ∷ bytes) fits =
     let first : number (take 8 (spelled 8 b ++ bits_of bytes))
     ≡ b = ap number (take_at (spelled 8 b) (bits_of bytes) 8 (many 8 b)) ∙ again 8 b (fits 0) in
     let rest : drop 8 (spelled 8 b ++ bits_of bytes) ≡ bits_of bytes = drop_at (spelled 8 b) (bits_of bytes) 8
     (many 8 b) in
-    let more = ap (bytes_in (length bytes)) rest ∙ bytes_again again many bytes (λ k. fits (suc k)) in
+    let more = ap (bytes_filled (length bytes)) rest ∙ bytes_again again many bytes (λ k. fits (suc k)) in
     λ i. first i ∷ more i
 
 same_list : List Bool → List Bool → Bool
@@ -63,7 +63,7 @@ opening_bytes : ℕ → ℕ → List ℕ
 opening_bytes plen pebit = big_bytes 2 (1024 + 8 * plen + pebit)
 
 is_opening : ℕ → ℕ → Bool
-is_opening plen pebit = same_list (bits_of (opening_bytes plen pebit)) (fields (opening_fields plen pebit))
+is_opening plen pebit = same_list (bits_of (opening_bytes plen pebit)) (fields (payload_opening_fields plen pebit))
 
 tried : each_below 64 (λ plen. each_below 8 (λ pebit. is_opening plen pebit)) ≡ true
 unfolding each_below is_opening opening_bytes same_list bits_of spelled
@@ -71,10 +71,10 @@ tried = refl
 
 -- the 16 bits of a payload header
 pub opening_is : (plen pebit : ℕ) → plen < 64 → pebit < 8 → bits_of (big_bytes 2 (1024 + 8 * plen + pebit))
-    ≡ fields (opening_fields plen pebit)
+    ≡ fields (payload_opening_fields plen pebit)
 unfolding is_opening opening_bytes
 opening_is plen pebit few less =
-    same_list_is (bits_of (opening_bytes plen pebit)) (fields (opening_fields plen pebit))
+    same_list_is (bits_of (opening_bytes plen pebit)) (fields (payload_opening_fields plen pebit))
     (each_at 8 (λ b. is_opening plen b) pebit (each_at 64 (λ l. each_below 8 (λ b. is_opening l b)) plen tried few)
     less)
 
@@ -106,15 +106,15 @@ pub front_is : ((n value : ℕ) → value < 2 ^ n → number (spelled n value) �
     → (rtp opening extra : List ℕ) (sequence timestamp pebit : ℕ) → length rtp ≡ 12 → length opening ≡ 2
     → ((k : ℕ) → get_or rtp k 0 < 2 ^ 8) → ((k : ℕ) → get_or opening k 0 < 2 ^ 8)
     → bits_of rtp ≡ fields (rtp_fields false sequence timestamp)
-    → bits_of opening ≡ fields (opening_fields (length extra) pebit)
+    → bits_of opening ≡ fields (payload_opening_fields (length extra) pebit)
     → (rtp ++ opening) ++ extra ≡ front_by sequence timestamp (record { bytes = extra; pebit = pebit })
 front_is again many rtp opening extra sequence timestamp pebit l1 l2 f1 f2 is_rtp is_opening =
-    let heads : bytes_in 14 (fields (rtp_fields false sequence timestamp)
-    ++ fields (opening_fields (length extra) pebit)) ≡ rtp ++ opening =
-    (λ i. bytes_in 14 (sym is_rtp i ++ sym is_opening i))
-    ∙ ap (bytes_in 14) (sym (bits_of-append rtp opening))
+    let heads : bytes_filled 14 (fields (rtp_fields false sequence timestamp)
+    ++ fields (payload_opening_fields (length extra) pebit)) ≡ rtp ++ opening =
+    (λ i. bytes_filled 14 (sym is_rtp i ++ sym is_opening i))
+    ∙ ap (bytes_filled 14) (sym (bits_of-append rtp opening))
     ∙ (let e : 14 ≡ length (rtp ++ opening) = omega (arith, length-append rtp opening) in
-    ap (λ (k : ℕ). bytes_in k (bits_of (rtp ++ opening))) e)
+    ap (λ (k : ℕ). bytes_filled k (bits_of (rtp ++ opening))) e)
     ∙ bytes_again again many (rtp ++ opening) (both_fit rtp opening f1 f2) in
     ap (λ (l : List ℕ). l ++ extra) (sym heads)
 

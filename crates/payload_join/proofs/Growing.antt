@@ -7,7 +7,7 @@ use Rattle.std.proofs.lemmas.List.Sorted.{IsPermutation-refl, IsPermutation-tran
 use Rattle.h263_types.specs.declared.format.Format.{Format}
 use Rattle.h263_bits.proofs.SyntaxLaws.{and_both}
 use Rattle.payload_join.specs.Packet.{Packet}
-use Rattle.payload_join.specs.Unit.{begins_one, follows_one, is_marked, begins_at, follows_at, marked_at, each_below, least_from, IsUnit, is_unit, unit_at}
+use Rattle.payload_join.specs.Unit.{begins_one, follows_one, is_marked, begins_unit_at, follows_at, marked_at, each_below, least_from, IsUnit, is_unit, unit_at}
 use Rattle.payload_join.specs.Outgoing.{coded_one, coded_from, out_by, outgoing_of}
 use Rattle.payload_join.specs.Run.{made_one, made_from}
 use Rattle.payload_join.specs.Laws.{UnitLaws}
@@ -50,15 +50,15 @@ unfolding is_unit
 unit_is at x k e =
     let follow = each_below k (λ j. follows_at at (x + (j + 1))) in
     let unmarked = each_below k (λ j. not (marked_at at (x + j))) in
-    let ends = marked_at at (x + k) || begins_at at (x + (k + 1)) in
-    let all = and_both ((begins_at at x && follow) && unmarked) ends e in
-    let three = and_both (begins_at at x && follow) unmarked all.0 in
-    let two = and_both (begins_at at x) follow three.0 in
+    let ends = marked_at at (x + k) || begins_unit_at at (x + (k + 1)) in
+    let all = and_both ((begins_unit_at at x && follow) && unmarked) ends e in
+    let three = and_both (begins_unit_at at x && follow) unmarked all.0 in
+    let two = and_both (begins_unit_at at x) follow three.0 in
     record {
       begins = two.0;
       follow = λ j lt. each_at k (λ j. follows_at at (x + (j + 1))) j two.1 lt;
       unmarked = λ j lt. not_true (marked_at at (x + j)) (each_at k (λ j. not (marked_at at (x + j))) j three.1 lt);
-      ends = ends_is (marked_at at (x + k)) (begins_at at (x + (k + 1))) all.1;
+      ends = ends_is (marked_at at (x + k)) (begins_unit_at at (x + (k + 1))) all.1;
     }
 
 ends_of : (m b : Bool) → (m ≡ true) ⊎ ((m ≡ false) × (b ≡ true)) → (m || b) ≡ true
@@ -72,7 +72,7 @@ unit_of at x k u =
     ≡ true = each_all k (λ j. follows_at at (x + (j + 1))) u.follow in
     let m : each_below k (λ j. not (marked_at at (x + j))) ≡ true = each_all k (λ j. not (marked_at at (x + j)))
     (λ j lt. ap not (u.unmarked j lt)) in
-    rw (u.begins, f, m, ends_of (marked_at at (x + k)) (begins_at at (x + (k + 1))) u.ends) refl
+    rw (u.begins, f, m, ends_of (marked_at at (x + k)) (begins_unit_at at (x + (k + 1))) u.ends) refl
 
 -- ---- there is one at most
 
@@ -83,7 +83,8 @@ either_one (Some p) b f = let e = not_true p.begins f in cc
 not_less : (at : At) (x j k : ℕ) → IsUnit at x j → IsUnit at x k → j < k → ⊥
 not_less at x j k u v lt = at_end u.ends
   where
-    at_end : (marked_at at (x + j) ≡ true) ⊎ ((marked_at at (x + j) ≡ false) × (begins_at at (x + (j + 1)) ≡ true)) → ⊥
+    at_end : (marked_at at (x + j) ≡ true) ⊎ ((marked_at at (x + j) ≡ false) × (begins_unit_at at (x + (j + 1)) ≡ true))
+        → ⊥
     at_end (inl m) = let e = v.unmarked j lt in cc
     at_end (inr b) = either_one (at (x + (j + 1))) b.1 (v.follow j lt)
 
@@ -133,10 +134,11 @@ least_none (suc n) from test fails = rw (fails from) (least_none n (from + 1) te
 
 -- ---- more packets
 
-begins_grows : (before now : At) (n : ℕ) → Grows before now → begins_at before n ≡ true → begins_at now n ≡ true
+begins_grows : (before now : At) (n : ℕ) → Grows before now → begins_unit_at before n ≡ true
+    → begins_unit_at now n ≡ true
 begins_grows before now n grows e = at (before n) refl e
   where
-    at : (o : Option Packet) → before n ≡ o → begins_one o ≡ true → begins_at now n ≡ true
+    at : (o : Option Packet) → before n ≡ o → begins_one o ≡ true → begins_unit_at now n ≡ true
     at None is e = absurd cc
     at (Some p) is e = rw (grows n p is) e
 
@@ -148,7 +150,8 @@ follows_grows before now n grows e = at (before n) refl e
     at (Some p) is e = rw (grows n p is) e
 
 -- what is held stays as it is
-stays_at : (before now : At) (n : ℕ) → Grows before now → (begins_at before n ≡ true) ⊎ (follows_at before n ≡ true)
+stays_at : (before now : At) (n : ℕ) → Grows before now → (begins_unit_at before n ≡ true)
+    ⊎ (follows_at before n ≡ true)
     → now n ≡ before n
 stays_at before now n grows h = at (before n) refl h
   where
@@ -160,7 +163,7 @@ stays_at before now n grows h = at (before n) refl h
 -- the packets of a unit stay
 in_unit : (before now : At) (x k j : ℕ) → Grows before now → IsUnit before x k → j ≤ k → now (x + j) ≡ before (x + j)
 in_unit before now x k zero grows u le = stays_at before now (x + 0) grows (inl (let e : x ≡ x + 0 = omega arith in
-    subst (λ (n : ℕ). begins_at before n ≡ true) e u.begins))
+    subst (λ (n : ℕ). begins_unit_at before n ≡ true) e u.begins))
 in_unit before now x k (suc j) grows u le =
     stays_at before now (x + suc j) grows (inr (let e : x + (j + 1) ≡ x + suc j = omega arith in
     subst (λ (n : ℕ). follows_at before n ≡ true) e (u.follow j (omega arith))))
@@ -175,8 +178,8 @@ unit_grows before now x k grows u =
     }
   where
     at_end : (marked_at before (x + k) ≡ true) ⊎ ((marked_at before (x + k) ≡ false)
-        × (begins_at before (x + (k + 1)) ≡ true))
-        → (marked_at now (x + k) ≡ true) ⊎ ((marked_at now (x + k) ≡ false) × (begins_at now (x + (k + 1)) ≡ true))
+        × (begins_unit_at before (x + (k + 1)) ≡ true))
+        → (marked_at now (x + k) ≡ true) ⊎ ((marked_at now (x + k) ≡ false) × (begins_unit_at now (x + (k + 1)) ≡ true))
     at_end (inl m) = inl (ap is_marked (in_unit before now x k k grows u (omega arith)) ∙ m)
     at_end (inr b) = inr (
       ap is_marked (in_unit before now x k k grows u (omega arith))

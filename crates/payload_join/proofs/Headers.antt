@@ -14,7 +14,7 @@ use Rattle.h263_bits.specs.Bits.{spelled}
 use Rattle.h263_bits.specs.Syntax.{any, only, done}
 use Rattle.back_messages.specs.declared.message.Message.{Message}
 use Rattle.back_messages.specs.Text.{message}
-use Rattle.picture_header.specs.Text.{allowed_format, allowed_kind, allowed_divisor, allowed_channel, allowed_low, allowed_quant, opening, plus_type, multipoint, extended, reference, extra_turn, extra, has_room, bci, next_message, after_message, back_turn, back, channel, header}
+use Rattle.picture_header.specs.Text.{allowed_format, allowed_kind, allowed_divisor, allowed_channel, allowed_low, allowed_quant, opening, plus_type, multipoint, extended, reference, extra_turn, extra, bci_room, bci, next_message, messages_after, back_turn, back, channel, header}
 use Rattle.payload_join.proofs.Zeros.{zeros, all_below, is_fine}
 use Rattle.payload_join.proofs.Kept.{Keeps, turn_to, keeps_done, keeps_any, keeps_tried, keeps_part, keeps_element, keeps_repeat, keeps_either, keeps_chosen, keeps_less}
 use Rattle.payload_join.proofs.Messages.{message_keeps}
@@ -159,13 +159,13 @@ after_next_bit (Some m) = 10
 next_keeps : (clock : Clock) (used : ℕ) → Keeps (next_message clock used) 10 after_next_bit
 unfolding next_message
 next_keeps clock used =
-    keeps_element bci (has_room used) _ 10 (λ _. 0) after_next_bit bci_keeps (λ more.
+    keeps_element bci (bci_room used) _ 10 (λ _. 0) after_next_bit bci_keeps (λ more.
     keeps_either (more == 0) (done None) _ 0 after_next_bit (keeps_done None 0 after_next_bit (omega arith))
     (keeps_part (message clock) any _ 0 (λ _. 10) after_next_bit (message_keeps clock)
     (λ m. keeps_done (Some m) 10 after_next_bit (omega arith))))
 
 next_left : (messages : List Message) (next : Option Message)
-    → after_next_bit next ≤ turn_to 10 (λ _. 0) (after_message messages next)
+    → after_next_bit next ≤ turn_to 10 (λ _. 0) (messages_after messages next)
 next_left messages None = omega arith
 next_left messages (Some m) = omega arith
 
@@ -174,7 +174,7 @@ unfolding back_turn
 back_turn_keeps clock messages =
     keeps_part (next_message clock (length messages)) any _ 10 after_next_bit (turn_to 10 (λ _. 0))
     (next_keeps clock (length messages)) (λ next.
-    keeps_done (after_message messages next) (after_next_bit next) (turn_to 10 (λ _. 0)) (next_left messages next))
+    keeps_done (messages_after messages next) (after_next_bit next) (turn_to 10 (λ _. 0)) (next_left messages next))
 
 back_keeps : (clock : Clock) → Keeps (back clock) 10 (λ _. 0)
 unfolding back

@@ -6,18 +6,23 @@ use Rattle.std.proofs.lemmas.List.{take-append-le, drop-append-le, length-take-l
 use Rattle.h263_region.specs.Slots.{Slots, bytes_in, count_of, zeros}
 use Rattle.payload_join.specs.declared.parts.Parts.{Parts}
 use Rattle.payload_join.specs.declared.took.Took.TheVariants as tooks
-use Rattle.payload_join.specs.Packet.{Packet, bytes_between, extra_of}
-use Rattle.payload_join.specs.Parts.{packet_of, IsInside}
-use Rattle.payload_join.specs.Places.{Packets, place_at, put_at, forgotten, left_at, passed, top_after, holding, reach, judged}
-use Rattle.payload_join.specs.Ring.{in_slot, packets_of, room_of, IsHeld, IsPlaced, IsPlacedIf, IsRing, Describes, IsSeen}
+use Rattle.payload_join.specs.Packet.{Packet, bytes_between, extra_carried}
+use Rattle.payload_join.specs.Parts.{packet_from_parts, ArePartsInside}
+use Rattle.payload_join.specs.Places.{PacketPlaces, place_at, put_at, forgotten, left_at, numbers_passed, top_after, holding, reach_above, packet_judged}
+use Rattle.h263_region.specs.Claimed.{IsHeld}
+use Rattle.payload_join.specs.Ring.{in_slot, slot_packets, last_room, IsPlaced, IsPlacedIf, IsRing, DescribesPacket, IsSeenPacket}
 use Rattle.payload_join.proofs.Slots.{with_slot, out_inside, put_length, zeros_sized}
 
 -- the ring as its parts say
-abbrev pub seen : Option ℕ → Slots → List ℕ → List (Option Parts) → Packets
-seen top region slots parts = record { top = top; packets = packets_of region slots parts; room = room_of region slots }
+abbrev pub seen : Option ℕ → Slots → List ℕ → List (Option Parts) → PacketPlaces
+seen top region slots parts = record {
+  top = top;
+  packets = slot_packets region slots parts;
+  room = last_room region slots;
+}
 
 pub many_packets : (region : Slots) (slots : List ℕ) (parts : List (Option Parts)) → length parts ≤ length slots
-    → length (packets_of region slots parts) ≡ length parts
+    → length (slot_packets region slots parts) ≡ length parts
 many_packets region slots [] le = refl
 many_packets region [] (p ∷ parts) le = absurd (omega arith)
 many_packets region (slot ∷ slots) (p ∷ parts) le =
@@ -26,7 +31,8 @@ many_packets region (slot ∷ slots) (p ∷ parts) le =
 -- the packet at a place
 pub packet_is : (region : Slots) (slots : List ℕ) (parts : List (Option Parts)) (k : ℕ) → k < length parts
     → length parts ≤ length slots
-    → get_or (packets_of region slots parts) k None ≡ in_slot (bytes_in region (get_or slots k 0)) (get_or parts k None)
+    → get_or (slot_packets region slots parts) k None
+    ≡ in_slot (bytes_in region (get_or slots k 0)) (get_or parts k None)
 packet_is region slots [] k lt le = absurd (omega arith)
 packet_is region [] (p ∷ parts) k lt le = absurd (omega arith)
 packet_is region (slot ∷ slots) (p ∷ parts) zero lt le = refl
@@ -35,7 +41,7 @@ packet_is region (slot ∷ slots) (p ∷ parts) (suc k) lt le = packet_is region
 -- the bytes of other slots are no matter
 pub packets_same : (region new : Slots) (slots : List ℕ) (parts : List (Option Parts))
     → ((j : ℕ) → j < length parts → bytes_in new (get_or slots j 0) ≡ bytes_in region (get_or slots j 0))
-    → packets_of new slots parts ≡ packets_of region slots parts
+    → slot_packets new slots parts ≡ slot_packets region slots parts
 packets_same region new slots [] same = refl
 packets_same region new [] (p ∷ parts) same = refl
 packets_same region new (slot ∷ slots) (p ∷ parts) same =
@@ -47,8 +53,8 @@ packets_same region new (slot ∷ slots) (p ∷ parts) same =
 pub packet_changed : (region new : Slots) (slots : List ℕ) (parts : List (Option Parts)) (k : ℕ) (p : Option Parts)
     → k < length parts → length parts ≤ length slots
     → ((j : ℕ) → j < length parts → (j ≡ k → ⊥) → bytes_in new (get_or slots j 0) ≡ bytes_in region (get_or slots j 0))
-    → packets_of new slots (set parts k p)
-    ≡ set (packets_of region slots parts) k (in_slot (bytes_in new (get_or slots k 0)) p)
+    → slot_packets new slots (set parts k p)
+    ≡ set (slot_packets region slots parts) k (in_slot (bytes_in new (get_or slots k 0)) p)
 packet_changed region new slots [] k p lt le same = absurd (omega arith)
 packet_changed region new [] (q ∷ parts) k p lt le same = absurd (omega arith)
 packet_changed region new (slot ∷ slots) (q ∷ parts) zero p lt le same =
@@ -63,7 +69,7 @@ packet_changed region new (slot ∷ slots) (q ∷ parts) (suc k) p lt le same =
 -- a place is cleared
 cleared : (region : Slots) (slots : List ℕ) (parts : List (Option Parts)) (k : ℕ) → k < length parts
     → length parts ≤ length slots
-    → packets_of region slots (set parts k None) ≡ set (packets_of region slots parts) k None
+    → slot_packets region slots (set parts k None) ≡ set (slot_packets region slots parts) k None
 cleared region slots parts k lt le = packet_changed region region slots parts k None lt le (λ j less ne. refl)
 
 pub many_forgotten : {X : Type 0} (held : List (Option X)) (from count : ℕ) → length (forgotten held from count)
@@ -75,7 +81,7 @@ many_forgotten held from (suc count) = length-set (forgotten held from count) ((
 
 forgotten_are : (region : Slots) (slots : List ℕ) (parts : List (Option Parts)) (from count : ℕ) → length parts ≡ 64
     → 64 ≤ length slots
-    → packets_of region slots (forgotten parts from count) ≡ forgotten (packets_of region slots parts) from count
+    → slot_packets region slots (forgotten parts from count) ≡ forgotten (slot_packets region slots parts) from count
 unfolding forgotten
 forgotten_are region slots parts from zero places le = refl
 forgotten_are region slots parts from (suc count) places le =
@@ -87,15 +93,15 @@ forgotten_are region slots parts from (suc count) places le =
 
 pub left_are : (region : Slots) (slots : List ℕ) (parts : List (Option Parts)) (top : Option ℕ) (sequence : ℕ)
     → length parts ≡ 64 → 64 ≤ length slots
-    → packets_of region slots (left_at top parts sequence) ≡ left_at top (packets_of region slots parts) sequence
+    → slot_packets region slots (left_at top parts sequence) ≡ left_at top (slot_packets region slots parts) sequence
 left_are region slots parts None sequence places le = refl
 left_are region slots parts (Some top) sequence places le = forgotten_are region slots parts (top + 1)
-    (passed top sequence) places le
+    (numbers_passed top sequence) places le
 
 pub many_left : {X : Type 0} (top : Option ℕ) (held : List (Option X)) (sequence : ℕ)
     → length (left_at top held sequence) ≡ length held
 many_left None held sequence = refl
-many_left (Some top) held sequence = many_forgotten held (top + 1) (passed top sequence)
+many_left (Some top) held sequence = many_forgotten held (top + 1) (numbers_passed top sequence)
 
 -- ---- what is kept
 
@@ -122,9 +128,9 @@ placed_forgotten parts from (suc count) placed j = placed_set (forgotten parts f
 placed_left : (parts : List (Option Parts)) (top : Option ℕ) (sequence : ℕ)
     → ((j : ℕ) → IsPlacedIf (get_or parts j None)) → (j : ℕ) → IsPlacedIf (get_or (left_at top parts sequence) j None)
 placed_left parts None sequence placed = placed
-placed_left parts (Some top) sequence placed = placed_forgotten parts (top + 1) (passed top sequence) placed
+placed_left parts (Some top) sequence placed = placed_forgotten parts (top + 1) (numbers_passed top sequence) placed
 
-pub is_placed : (bytes : List ℕ) (p : Parts) → IsInside bytes p → IsPlaced p
+pub is_placed : (bytes : List ℕ) (p : Parts) → ArePartsInside bytes p → IsPlaced p
 is_placed bytes p h = record {
   few = h.few;
   bits = h.bits;
@@ -171,7 +177,7 @@ ring_wrote region slots parts k ws r lk long =
 
 -- a packet is held
 pub ring_held : (region : Slots) (slots : List ℕ) (parts : List (Option Parts)) (bytes : List ℕ) (top : Option ℕ)
-    (sequence : ℕ) (p : Parts) → IsRing region slots parts → IsInside bytes p
+    (sequence : ℕ) (p : Parts) → IsRing region slots parts → ArePartsInside bytes p
     → IsRing (with_slot region (get_or slots (sequence % 64) 0)
     (put_at (bytes_in region (get_or slots (sequence % 64) 0)) 0 bytes)) slots
     (set (left_at top parts sequence) (sequence % 64) (Some p))
@@ -204,7 +210,8 @@ between_front bytes rest from to order end =
     ap (take (to - from)) d ∙ take-append-le (to - from) (drop from bytes) rest (omega arith)
 
 -- what stands after a packet in its slot is no part of it
-packet_front : (bytes rest : List ℕ) (p : Parts) → IsInside bytes p → packet_of (bytes ++ rest) p ≡ packet_of bytes p
+packet_front : (bytes rest : List ℕ) (p : Parts) → ArePartsInside bytes p → packet_from_parts (bytes ++ rest) p
+    ≡ packet_from_parts bytes p
 packet_front bytes rest p h =
     let a = h.extra in let b = h.order in let c = h.end in
     let e : bytes_between (bytes ++ rest) p.extra_from p.coded_from ≡ bytes_between bytes p.extra_from p.coded_from =
@@ -216,17 +223,17 @@ packet_front bytes rest p h =
       marker = p.marker;
       sequence = p.sequence;
       timestamp = p.timestamp;
-      extra = extra_of p.plen p.pebit (e i);
+      extra = extra_carried p.plen p.pebit (e i);
       coded = f i;
     }
 
 -- so the packet is held, and the others are forgotten
 pub held_is : (region : Slots) (slots : List ℕ) (parts : List (Option Parts)) (top : Option ℕ) (bytes : List ℕ)
-    (sequence : ℕ) (p : Parts) → IsRing region slots parts → IsInside bytes p
+    (sequence : ℕ) (p : Parts) → IsRing region slots parts → ArePartsInside bytes p
     → seen (Some (top_after top sequence)) (with_slot region (get_or slots (sequence % 64) 0)
     (put_at (bytes_in region (get_or slots (sequence % 64) 0)) 0 bytes)) slots
     (set (left_at top parts sequence) (sequence % 64) (Some p))
-    ≡ holding (seen top region slots parts) sequence (packet_of bytes p)
+    ≡ holding (seen top region slots parts) sequence (packet_from_parts bytes p)
 held_is region slots parts top bytes sequence p r h =
     let k : ℕ = sequence % 64 in
     let slot : ℕ = get_or slots k 0 in
@@ -238,21 +245,22 @@ held_is region slots parts top bytes sequence p r h =
     let there : bytes_in new slot ≡ bytes ++ drop (length bytes) (bytes_in region slot) =
     wrote_here region slots parts k ws r (omega arith) ∙ (let z : 0 + length bytes ≡ length bytes = omega arith in
     ap (λ (n : ℕ). bytes ++ drop n (bytes_in region slot)) z) in
-    let packet : in_slot (bytes_in new slot) (Some p) ≡ Some (packet_of bytes p) =
+    let packet : in_slot (bytes_in new slot) (Some p) ≡ Some (packet_from_parts bytes p) =
     ap (λ (b : List ℕ). in_slot b (Some p)) there
     ∙ ap (λ (q : Packet). Some q) (packet_front bytes (drop (length bytes) (bytes_in region slot)) p h) in
-    let packets : packets_of new slots (set (left_at top parts sequence) k (Some p))
-    ≡ set (left_at top (packets_of region slots parts) sequence) k (Some (packet_of bytes p)) =
+    let packets : slot_packets new slots (set (left_at top parts sequence) k (Some p))
+    ≡ set (left_at top (slot_packets region slots parts) sequence) k (Some (packet_from_parts bytes p)) =
     packet_changed region new slots (left_at top parts sequence) k (Some p) (omega arith) (omega arith)
     (λ j lj ne. wrote_same region slots parts k j ws r (omega arith) (omega arith) ne)
     ∙ (λ i. set (left_are region slots parts top sequence pl (omega arith) i) k (packet i)) in
-    let room : room_of new slots ≡ room_of region slots = wrote_same region slots parts k 64 ws r (omega arith)
+    let room : last_room new slots ≡ last_room region slots = wrote_same region slots parts k 64 ws r (omega arith)
     (omega arith) (λ e. absurd (omega arith)) in
     λ i. record { top = Some (top_after top sequence); packets = packets i; room = room i }
 
 -- ---- a ring that is empty
 
-pub none_are : (region : Slots) (slots : List ℕ) (n : ℕ) → n ≤ length slots → packets_of region slots (replicate n None)
+pub none_are : (region : Slots) (slots : List ℕ) (n : ℕ) → n ≤ length slots
+    → slot_packets region slots (replicate n None)
     ≡ replicate n None
 none_are region slots zero le = refl
 none_are region [] (suc n) le = absurd (omega arith)
@@ -275,7 +283,7 @@ slot_is region slots parts number slot r e =
 -- the packet of a number, by the parts that were read
 read_is : (region : Slots) (slots : List ℕ) (parts : List (Option Parts)) (number : ℕ) (o : Option Parts)
     → IsRing region slots parts → o ≡ get_or parts (number % 64) o
-    → place_at (packets_of region slots parts) number ≡ in_slot (bytes_in region (get_or slots (number % 64) 0)) o
+    → place_at (slot_packets region slots parts) number ≡ in_slot (bytes_in region (get_or slots (number % 64) 0)) o
 read_is region slots parts number o r e =
     let k : ℕ = number % 64 in
     let c = r.count in let pl = r.places in
@@ -284,7 +292,7 @@ read_is region slots parts number o r e =
     ∙ ap (in_slot (bytes_in region (get_or slots k 0))) (get_or_default parts k None o (omega arith) ∙ sym e)
 
 pub seen_at : (region : Slots) (slots : List ℕ) (parts : List (Option Parts)) (number : ℕ)
-    (r o : Option Parts) {top : Option ℕ} {packets : Packets} → IsRing region slots parts
+    (r o : Option Parts) {top : Option ℕ} {packets : PacketPlaces} → IsRing region slots parts
     → r ≡ get_or parts (number % 64) r → r ≡ o
     → seen top region slots parts ≡ packets → in_slot (bytes_in region (get_or slots (number % 64) 0)) o
     ≡ place_at packets.packets number
@@ -296,7 +304,7 @@ seen_at region slots parts number r o ring e is view =
 -- whether it is held
 pub some_seen : (region : Slots) (slots : List ℕ) (parts : List (Option Parts)) (number : ℕ) (o : Option Parts)
     → IsRing region slots parts → o ≡ get_or parts (number % 64) o
-    → is_some (place_at (packets_of region slots parts) number) ≡ is_some o
+    → is_some (place_at (slot_packets region slots parts) number) ≡ is_some o
 some_seen region slots parts number o ring e = ap (λ (q : Option Packet). is_some q)
     (read_is region slots parts number o ring e) ∙ same (bytes_in region (get_or slots (number % 64) 0)) o
   where
@@ -330,7 +338,7 @@ coded_is region slots parts number r p ring e is =
 
 pub described : (region : Slots) (slots : List ℕ) (parts : List (Option Parts)) (number : ℕ) (r : Option Parts)
     (p : Parts) → IsRing region slots parts → r ≡ get_or parts (number % 64) r → r ≡ Some p
-    → Describes p (packet_of (bytes_in region (get_or slots (number % 64) 0)) p)
+    → DescribesPacket p (packet_from_parts (bytes_in region (get_or slots (number % 64) 0)) p)
 described region slots parts number r p ring e is =
     let placed = placed_at region slots parts number r p ring e is in
     let extra = placed.extra in let order = placed.order in let end = placed.end in
@@ -345,24 +353,25 @@ described region slots parts number r p ring e is =
     }
 
 pub seen_is : (region : Slots) (slots : List ℕ) (parts : List (Option Parts)) (number : ℕ) (r : Option Parts)
-    (top : Option ℕ) (packets : Packets) → IsRing region slots parts → r ≡ get_or parts (number % 64) r
-    → seen top region slots parts ≡ packets → IsSeen r (place_at packets.packets number)
+    (top : Option ℕ) (packets : PacketPlaces) → IsRing region slots parts → r ≡ get_or parts (number % 64) r
+    → seen top region slots parts ≡ packets → IsSeenPacket r (place_at packets.packets number)
 seen_is region slots parts number r top packets ring e view = at r refl
   where
-    at : (o : Option Parts) → r ≡ o → IsSeen o (place_at packets.packets number)
+    at : (o : Option Parts) → r ≡ o → IsSeenPacket o (place_at packets.packets number)
     at None is = sym (seen_at region slots parts number r None ring e is view)
     at (Some q) is = (
-      packet_of (bytes_in region (get_or slots (number % 64) 0)) q,
+      packet_from_parts (bytes_in region (get_or slots (number % 64) 0)) q,
       sym (seen_at region slots parts number r (Some q) ring e is view),
       described region slots parts number r q ring e is,
     )
 
 -- there is a place for each rest
-pub many_places : (region : Slots) (slots : List ℕ) (parts : List (Option Parts)) (top : Option ℕ) (packets : Packets)
+pub many_places : (region : Slots) (slots : List ℕ) (parts : List (Option Parts)) (top : Option ℕ)
+    (packets : PacketPlaces)
     → IsRing region slots parts → seen top region slots parts ≡ packets → length packets.packets ≡ 64
 many_places region slots parts top packets ring view =
     let c = ring.count in let pl = ring.places in
-    ap (λ (t : Packets). length t.packets) (sym view) ∙ many_packets region slots parts (omega arith) ∙ ring.places
+    ap (λ (t : PacketPlaces). length t.packets) (sym view) ∙ many_packets region slots parts (omega arith) ∙ ring.places
 
 -- ---- the room
 
@@ -382,7 +391,7 @@ room_ring region slots parts at ws r le =
 pub room_seen : (top : Option ℕ) (region : Slots) (slots : List ℕ) (parts : List (Option Parts)) (at : ℕ) (ws : List ℕ)
     → IsRing region slots parts
     → seen top (with_slot region (get_or slots 64 0) (put_at (bytes_in region (get_or slots 64 0)) at ws)) slots parts
-    ≡ record (seen top region slots parts) { room = put_at (room_of region slots) at ws }
+    ≡ record (seen top region slots parts) { room = put_at (last_room region slots) at ws }
 room_seen top region slots parts at ws r =
     let pl = r.places in
     let new : List ℕ = put_at (bytes_in region (get_or slots 64 0)) at ws in
@@ -392,20 +401,22 @@ room_seen top region slots parts at ws r =
     λ i. record { top = top; packets = packets i; room = room i }
 
 -- the answers that hang on what is held
-judged_upto : (packets : List (Option Packet)) (top sequence r : ℕ) → r ≡ reach top sequence → 32768 < r + 64
+judged_upto : (packets : List (Option Packet)) (top sequence r : ℕ) → r ≡ reach_above top sequence → 32768 < r + 64
     → r ≤ 32768
-    → judged (Some top) packets sequence ≡ (if is_some (place_at packets sequence) then tooks.Again else tooks.Held)
+    → packet_judged (Some top) packets sequence
+    ≡ (if is_some (place_at packets sequence) then tooks.Again else tooks.Held)
 judged_upto packets top sequence r e young upto =
-    let a : nat_le (reach top sequence + 64) 32768 ≡ false = lt-leb (reach top sequence + 64) 32768 (omega arith) in
-    let b : nat_lt 32768 (reach top sequence) ≡ false = le-ltb 32768 (reach top sequence) (omega arith) in
+    let a : nat_le (reach_above top sequence + 64) 32768 ≡ false = lt-leb (reach_above top sequence + 64) 32768
+    (omega arith) in
+    let b : nat_lt 32768 (reach_above top sequence) ≡ false = le-ltb 32768 (reach_above top sequence) (omega arith) in
     rw (a, b) refl
 
-pub judged_again : (packets : List (Option Packet)) (top sequence r : ℕ) → r ≡ reach top sequence → 32768 < r + 64
-    → r ≤ 32768 → is_some (place_at packets sequence) ≡ true → judged (Some top) packets sequence ≡ tooks.Again
+pub judged_again : (packets : List (Option Packet)) (top sequence r : ℕ) → r ≡ reach_above top sequence → 32768 < r + 64
+    → r ≤ 32768 → is_some (place_at packets sequence) ≡ true → packet_judged (Some top) packets sequence ≡ tooks.Again
 judged_again packets top sequence r e young upto held = judged_upto packets top sequence r e young upto ∙ (rw held refl)
 
-pub judged_fresh : (packets : List (Option Packet)) (top sequence r : ℕ) → r ≡ reach top sequence → 32768 < r + 64
-    → r ≤ 32768 → is_some (place_at packets sequence) ≡ false → judged (Some top) packets sequence ≡ tooks.Held
+pub judged_fresh : (packets : List (Option Packet)) (top sequence r : ℕ) → r ≡ reach_above top sequence → 32768 < r + 64
+    → r ≤ 32768 → is_some (place_at packets sequence) ≡ false → packet_judged (Some top) packets sequence ≡ tooks.Held
 judged_fresh packets top sequence r e young upto held = judged_upto packets top sequence r e young upto ∙ (rw held refl)
 
 -- ---- a region whose slots were all claimed

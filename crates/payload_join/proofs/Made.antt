@@ -6,7 +6,7 @@ use Rattle.std.specs.Prelude.{nat_le, nat_eq, ◌&&◌, not}
 use Rattle.std.proofs.lemmas.Bool.{cases_lt, cases_eq, cases_Bool, le-leb, lt-leb, eq-eqb, ne_eqb}
 use Rattle.std.proofs.lemmas.List.{append-nil}
 use Rattle.h263_types.specs.declared.format.Format.{Format}
-use Rattle.payload_join.specs.Unit.{begins_one, follows_one, is_marked, begins_at, follows_at, marked_at, IsUnit, unit_at}
+use Rattle.payload_join.specs.Unit.{begins_one, follows_one, is_marked, begins_unit_at, follows_at, marked_at, IsUnit, unit_at}
 use Rattle.payload_join.specs.Outgoing.{outgoing_of}
 use Rattle.payload_join.specs.Run.{made_one, made_from}
 use Rattle.payload_join.specs.Units.{is_made, out_made}
@@ -25,11 +25,11 @@ pub record IsStep (before now : At) (n last : ℕ) : Type 0 where
 pub record IsFrom (at : At) (low n x : ℕ) : Type 0 where
   pub from : low ≤ x
   pub below : x < n
-  pub begins : begins_at at x ≡ true
+  pub begins : begins_unit_at at x ≡ true
   pub follow : (m : ℕ) → x < m → m < n → follows_at at m ≡ true
 
-held_is : (at : At) (n m : ℕ) → at n ≡ None → (begins_at at m ≡ true) ⊎ (follows_at at m ≡ true) → m ≡ n → ⊥
-held_is at n m none (inl b) e = let f : begins_at at m ≡ false = ap (λ (k : ℕ). begins_at at k) e
+held_is : (at : At) (n m : ℕ) → at n ≡ None → (begins_unit_at at m ≡ true) ⊎ (follows_at at m ≡ true) → m ≡ n → ⊥
+held_is at n m none (inl b) e = let f : begins_unit_at at m ≡ false = ap (λ (k : ℕ). begins_unit_at at k) e
     ∙ ap begins_one none in cc
 held_is at n m none (inr b) e = let f : follows_at at m ≡ false = ap (λ (k : ℕ). follows_at at k) e
     ∙ ap follows_one none in cc
@@ -53,8 +53,8 @@ same_unit at bt y k same next u =
     first : at y ≡ bt y
     first = let e : y + 0 ≡ y = omega arith in subst (λ (n : ℕ). at n ≡ bt n) e (same 0 (omega arith))
 
-    at_end : (marked_at at (y + k) ≡ true) ⊎ ((marked_at at (y + k) ≡ false) × (begins_at at (y + (k + 1)) ≡ true))
-        → (marked_at bt (y + k) ≡ true) ⊎ ((marked_at bt (y + k) ≡ false) × (begins_at bt (y + (k + 1)) ≡ true))
+    at_end : (marked_at at (y + k) ≡ true) ⊎ ((marked_at at (y + k) ≡ false) × (begins_unit_at at (y + (k + 1)) ≡ true))
+        → (marked_at bt (y + k) ≡ true) ⊎ ((marked_at bt (y + k) ≡ false) × (begins_unit_at bt (y + (k + 1)) ≡ true))
     at_end (inl m) = inl (ap is_marked (sym (same k (omega arith))) ∙ m)
     at_end (inr b) = inr (ap is_marked (sym (same k (omega arith))) ∙ b.0, ap begins_one (sym (next b.0)) ∙ b.1)
 

@@ -10,7 +10,7 @@ use Rattle.h263_bits.specs.Bits.{spelled, is_set}
 use Rattle.h263_bits.specs.Syntax.{same_bit, any}
 use Rattle.h263_bits.proofs.SyntaxLaws.{length-spelled, and_both}
 use Rattle.back_messages.specs.declared.message.MessageFault.{MessageFault}
-use Rattle.back_messages.specs.Text.{message_fault, fault_of, is_fault, allowed_message, is_long, allowed_markers, has_markers, flags, message}
+use Rattle.back_messages.specs.Text.{message_fault, first_field_fault, is_fault, allowed_message, is_long, allowed_markers, has_markers, flags, message}
 use Rattle.payload_join.proofs.Zeros.{zeros, zeros_add, zeros_then}
 use Rattle.payload_join.proofs.Kept.{Keeps, keeps_done, keeps_field, keeps_part, keeps_either}
 
@@ -52,7 +52,8 @@ no_fault None e = refl
 no_fault (Some fault) e = absurd cc
 
 -- what a message without fault has
-fields_have : (clock : Clock) (long : Bool) (type urf tr marker rtr : ℕ) → fault_of clock long type urf tr marker rtr
+fields_have : (clock : Clock) (long : Bool) (type urf tr marker rtr : ℕ)
+    → first_field_fault clock long type urf tr marker rtr
     ≡ None → (2 ≤ type) × (marker ≡ 0 → ⊥)
 fields_have clock long type urf tr marker rtr e =
     let a = passes (nat_lt type 2) _ _ e in

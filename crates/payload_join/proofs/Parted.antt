@@ -13,10 +13,10 @@ use Rattle.rtp_header.specs.Text.{from_byte}
 use Rattle.payload_join.specs.declared.front.Front.{Front}
 use Rattle.payload_join.specs.declared.parts.Parts.{Parts}
 use Rattle.payload_join.specs.Packet.{Packet, Extra, bytes_between}
-use Rattle.payload_join.specs.Split.{starts, onto, split_of}
-use Rattle.payload_join.specs.Outgoing.{no_extra, front_of, padded_bytes, copied, header_of, begins_picture, each_out, picture_out, begun_out, unit_out, out_by}
-use Rattle.payload_join.specs.Fronts.{front_bytes, front_by, end_as, header_end}
-use Rattle.payload_join.specs.Ring.{Describes, extra_one}
+use Rattle.payload_join.specs.Split.{starts_code, byte_onto, split_of}
+use Rattle.payload_join.specs.Outgoing.{no_extra, front_of, padded_bytes, copied, header_copied, begins_picture, each_out, picture_out, begun_out, unit_out, out_by}
+use Rattle.payload_join.specs.Fronts.{bytes_of_front, front_by, end_as, header_end}
+use Rattle.payload_join.specs.Ring.{DescribesPacket, extra_one}
 use Rattle.payload_join.specs.Giving.{fronted}
 
 each_is : (p : Packet) (first other : Extra) (parts : List (List ℕ)) → each_out p first other parts
@@ -30,14 +30,14 @@ unfolding split_of
 some_part [] = ([], [], refl)
 some_part (a ∷ []) = (a ∷ [], [], refl)
 some_part (a ∷ b ∷ []) = (a ∷ b ∷ [], [], refl)
-some_part (a ∷ b ∷ c ∷ xs) = at (starts a b c) refl
+some_part (a ∷ b ∷ c ∷ xs) = at (starts_code a b c) refl
   where
-    on : (parts : List (List ℕ)) → (part : List ℕ) × (more : List (List ℕ)) × (onto a parts ≡ part ∷ more)
+    on : (parts : List (List ℕ)) → (part : List ℕ) × (more : List (List ℕ)) × (byte_onto a parts ≡ part ∷ more)
     on [] = (a ∷ [], [], refl)
     on (part ∷ parts) = (a ∷ part, parts, refl)
 
-    at : (t : Bool) → starts a b c ≡ t → (part : List ℕ) × (parts : List (List ℕ))
-        × (cond (starts a b c) ([] ∷ split_of (c ∷ xs)) (onto a (split_of (b ∷ c ∷ xs))) ≡ part ∷ parts)
+    at : (t : Bool) → starts_code a b c ≡ t → (part : List ℕ) × (parts : List (List ℕ))
+        × (cond (starts_code a b c) ([] ∷ split_of (c ∷ xs)) (byte_onto a (split_of (b ∷ c ∷ xs))) ≡ part ∷ parts)
     at true is = ([], split_of (c ∷ xs), rw is refl)
     at false is = let o = on (split_of (b ∷ c ∷ xs)) in (o.0, o.1, rw is o.2)
 
@@ -93,7 +93,7 @@ with_one format p coded le none begins one =
     ∙ ap (fronted (front_of p no_extra) (front_of p no_extra)) (sym one)
 
 several : (format : Format) (p : Packet) (coded part rest : List ℕ) → split_of coded ≡ part ∷ split_of rest
-    → begun_out format p coded (split_of coded) ≡ picture_out p coded (header_of format coded)
+    → begun_out format p coded (split_of coded) ≡ picture_out p coded (header_copied format coded)
 several format p coded part rest cut =
     let o = some_part rest in
     let two : split_of coded ≡ part ∷ o.0 ∷ o.1 = cut ∙ ap (λ (l : List (List ℕ)). part ∷ l) o.2 in
@@ -123,7 +123,7 @@ pub with_header : (format : Format) (p : Packet) (coded part rest : List ℕ) (b
     → length p.extra.bytes ≡ 0 → begins_picture coded ≡ true → split_of coded ≡ part ∷ split_of rest
     → Some bits ≡ header_end format coded
     → unit_out format p coded ≡ fronted (front_of p no_extra) (front_of p (padded_bytes bits coded)) (split_of coded)
-unfolding header_end header_of
+unfolding header_end header_copied
 with_header format p coded part rest bits le none begins cut ends =
     begun format p coded le none begins ∙ several format p coded part rest cut
     ∙ ap (picture_out p coded) (ends_at coded (reading (header format) (from_byte 0 coded)) bits (sym ends))
@@ -134,7 +134,7 @@ pub with_no_header : (format : Format) (p : Packet) (coded part rest : List ℕ)
     → length p.extra.bytes ≡ 0 → begins_picture coded ≡ true → split_of coded ≡ part ∷ split_of rest
     → None ≡ header_end format coded
     → unit_out format p coded ≡ (front_of p no_extra ++ coded) ∷ []
-unfolding header_end header_of
+unfolding header_end header_copied
 with_no_header format p coded part rest le none begins cut ends =
     begun format p coded le none begins ∙ several format p coded part rest cut
     ∙ ap (picture_out p coded) (ends_nowhere coded (reading (header format) (from_byte 0 coded)) (sym ends))
@@ -153,33 +153,33 @@ pub cut_found : (coded : List ℕ) (r : Option ℕ) → is_some r ≡ true
 cut_found coded None e some = absurd cc
 cut_found coded (Some at) e some = (take at coded, drop (at + 2) coded, some)
 
-front_same : (q : Parts) (p : Packet) (extra : Extra) → Describes q p → front_by q.sequence q.timestamp extra
+front_same : (q : Parts) (p : Packet) (extra : Extra) → DescribesPacket q p → front_by q.sequence q.timestamp extra
     ≡ front_of p extra
 front_same q p extra d = λ i. front_by (sym d.sequence i) (sym d.timestamp i) extra
 
 pub by_extra : (format : Format) (coded : List ℕ) (o : Option Packet) (q : Parts) (front : Front) {extra : List ℕ}
-    → (p : Packet) → o ≡ Some p → Describes q p → length coded ≤ 65400 → 0 < q.plen → extra ≡ extra_one o
-    → front_bytes front ≡ front_by q.sequence q.timestamp (record { bytes = extra; pebit = q.pebit })
-    → fronted (front_bytes front) (front_bytes front) (split_of coded) ≡ out_by format coded o
+    → (p : Packet) → o ≡ Some p → DescribesPacket q p → length coded ≤ 65400 → 0 < q.plen → extra ≡ extra_one o
+    → bytes_of_front front ≡ front_by q.sequence q.timestamp (record { bytes = extra; pebit = q.pebit })
+    → fronted (bytes_of_front front) (bytes_of_front front) (split_of coded) ≡ out_by format coded o
 by_extra format coded o q front {extra} p is d le some extra_is front_is =
     let bytes : extra ≡ p.extra.bytes = extra_is ∙ ap extra_one is in
     let pebit = d.pebit some in
-    let whole : front_bytes front ≡ front_of p p.extra = front_is
+    let whole : bytes_of_front front ≡ front_of p p.extra = front_is
     ∙ (λ i. front_by q.sequence q.timestamp (record { bytes = bytes i; pebit = sym pebit i }))
     ∙ front_same q p p.extra d in
     let plen = d.plen in
     (λ i. fronted (whole i) (whole i) (split_of coded)) ∙ sym (with_extra format p coded le (omega arith))
     ∙ ap (out_by format coded) (sym is)
 
-plain_is : (q : Parts) (p : Packet) (front : Front) → Describes q p
-    → front_bytes front ≡ front_by q.sequence q.timestamp (record { bytes = []; pebit = 0 })
-    → front_bytes front ≡ front_of p no_extra
+plain_is : (q : Parts) (p : Packet) (front : Front) → DescribesPacket q p
+    → bytes_of_front front ≡ front_by q.sequence q.timestamp (record { bytes = []; pebit = 0 })
+    → bytes_of_front front ≡ front_of p no_extra
 plain_is q p front d e = e ∙ front_same q p no_extra d
 
 pub by_none : (format : Format) (coded : List ℕ) (o : Option Packet) (q : Parts) (front : Front) → (p : Packet)
-    → o ≡ Some p → Describes q p → length coded ≤ 65400 → q.plen ≤ 0
-    → front_bytes front ≡ front_by q.sequence q.timestamp (record { bytes = []; pebit = 0 })
-    → begins_picture coded ≡ false → fronted (front_bytes front) (front_bytes front) (split_of coded)
+    → o ≡ Some p → DescribesPacket q p → length coded ≤ 65400 → q.plen ≤ 0
+    → bytes_of_front front ≡ front_by q.sequence q.timestamp (record { bytes = []; pebit = 0 })
+    → begins_picture coded ≡ false → fronted (bytes_of_front front) (bytes_of_front front) (split_of coded)
     ≡ out_by format coded o
 by_none format coded o q front p is d le none front_is begins =
     let whole = plain_is q p front d front_is in let plen = d.plen in
@@ -187,10 +187,10 @@ by_none format coded o q front p is d le none front_is begins =
     ∙ ap (out_by format coded) (sym is)
 
 pub by_one : (format : Format) (coded : List ℕ) (o : Option Packet) (q : Parts) (front : Front) {now : List ℕ}
-    → (p : Packet) → o ≡ Some p → Describes q p → length coded ≤ 65400 → q.plen ≤ 0
-    → front_bytes front ≡ front_by q.sequence q.timestamp (record { bytes = []; pebit = 0 })
+    → (p : Packet) → o ≡ Some p → DescribesPacket q p → length coded ≤ 65400 → q.plen ≤ 0
+    → bytes_of_front front ≡ front_by q.sequence q.timestamp (record { bytes = []; pebit = 0 })
     → begins_picture coded ≡ true → now ≡ coded → split_of now ≡ now ∷ []
-    → fronted (front_bytes front) (front_bytes front) (split_of coded) ≡ out_by format coded o
+    → fronted (bytes_of_front front) (bytes_of_front front) (split_of coded) ≡ out_by format coded o
 by_one format coded o q front p is d le none front_is begins same one =
     let whole = plain_is q p front d front_is in let plen = d.plen in
     let one' = subst (λ (l : List ℕ). split_of l ≡ l ∷ []) same one in
@@ -198,14 +198,14 @@ by_one format coded o q front p is d le none front_is begins same one =
     ∙ ap (out_by format coded) (sym is)
 
 pub by_header : (format : Format) (coded : List ℕ) (o : Option Packet) (q : Parts) (front other : Front)
-    (bits : ℕ) {now : List ℕ} → (p : Packet) → o ≡ Some p → Describes q p → length coded ≤ 65400 → q.plen ≤ 0
-    → front_bytes front ≡ front_by q.sequence q.timestamp (record { bytes = []; pebit = 0 })
+    (bits : ℕ) {now : List ℕ} → (p : Packet) → o ≡ Some p → DescribesPacket q p → length coded ≤ 65400 → q.plen ≤ 0
+    → bytes_of_front front ≡ front_by q.sequence q.timestamp (record { bytes = []; pebit = 0 })
     → begins_picture coded ≡ true → now ≡ coded → IsCut now → Some bits ≡ header_end format now
-    → front_bytes other ≡ front_by q.sequence q.timestamp (padded_bytes bits now)
-    → fronted (front_bytes front) (front_bytes other) (split_of coded) ≡ out_by format coded o
+    → bytes_of_front other ≡ front_by q.sequence q.timestamp (padded_bytes bits now)
+    → fronted (bytes_of_front front) (bytes_of_front other) (split_of coded) ≡ out_by format coded o
 by_header format coded o q front other bits {now} p is d le none front_is begins same cut ends other_is =
     let whole = plain_is q p front d front_is in let plen = d.plen in
-    let others : front_bytes other ≡ front_of p (padded_bytes bits coded) = other_is
+    let others : bytes_of_front other ≡ front_of p (padded_bytes bits coded) = other_is
     ∙ ap (λ (l : List ℕ). front_by q.sequence q.timestamp (padded_bytes bits l)) same
     ∙ front_same q p (padded_bytes bits coded) d in
     let cut' : split_of coded ≡ cut.0 ∷ split_of cut.1 = ap split_of (sym same) ∙ cut.2 in
@@ -214,10 +214,10 @@ by_header format coded o q front other bits {now} p is d le none front_is begins
     ∙ ap (header_end format) same)) ∙ ap (out_by format coded) (sym is)
 
 pub by_no_header : (format : Format) (coded : List ℕ) (o : Option Packet) (q : Parts) (front : Front) {now : List ℕ}
-    → (p : Packet) → o ≡ Some p → Describes q p → length coded ≤ 65400 → q.plen ≤ 0
-    → front_bytes front ≡ front_by q.sequence q.timestamp (record { bytes = []; pebit = 0 })
+    → (p : Packet) → o ≡ Some p → DescribesPacket q p → length coded ≤ 65400 → q.plen ≤ 0
+    → bytes_of_front front ≡ front_by q.sequence q.timestamp (record { bytes = []; pebit = 0 })
     → begins_picture coded ≡ true → now ≡ coded → IsCut now → None ≡ header_end format now
-    → (front_bytes front ++ coded) ∷ [] ≡ out_by format coded o
+    → (bytes_of_front front ++ coded) ∷ [] ≡ out_by format coded o
 by_no_header format coded o q front p is d le none front_is begins same cut ends =
     let whole = plain_is q p front d front_is in let plen = d.plen in
     let cut' : split_of coded ≡ cut.0 ∷ split_of cut.1 = ap split_of (sym same) ∙ cut.2 in

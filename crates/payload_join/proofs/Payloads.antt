@@ -16,13 +16,14 @@ use Rattle.rtp_header.specs.Faults.{rtp_in}
 use Rattle.rtp_header.specs.Written.{rtp_fields, written_rtp}
 use Rattle.h263_payload.specs.declared.payload.Opening.{Opening}
 use Rattle.h263_payload.specs.declared.payload.Payload.{Payload}
-use Rattle.h263_payload.specs.Text.{opening, leading, IsExtra, IsBegun, IsPayload}
+use Rattle.h263_payload.specs.Text.{payload_opening, leading, IsExtra, IsStartCodeRest, IsPayload}
 use Rattle.h263_payload.specs.Headed.{IsHeaded}
-use Rattle.h263_payload.specs.Written.{opening_fields}
+use Rattle.h263_payload.specs.Written.{payload_opening_fields}
 use Rattle.slice_layer.specs.Text.{IsSliceText}
-use Rattle.packet_collector.specs.Packet.{Slice, IsPacket}
+use Rattle.packet_collector.specs.Packet.{PacketSlice, IsPacket}
 use Rattle.payload_join.specs.Packet.{Packet, Extra}
-use Rattle.payload_join.specs.Outgoing.{bytes_in, front_of, outgoing}
+use Rattle.h263_bits.specs.Bytes.{bytes_filled}
+use Rattle.payload_join.specs.Outgoing.{front_of, outgoing}
 
 -- what the laws of the layers below say of a picture header and of RTP's
 pub record AreRead : Type 0 where
@@ -35,29 +36,29 @@ pub record AreRead : Type 0 where
 
 -- ---- bits and the bytes that they fill
 
-length-bytes_in : (count : ℕ) (text : List Bool) → length (bytes_in count text) ≡ count
-unfolding bytes_in
+length-bytes_in : (count : ℕ) (text : List Bool) → length (bytes_filled count text) ≡ count
+unfolding bytes_filled
 length-bytes_in zero text = refl
 length-bytes_in (suc count) text = ap suc (length-bytes_in count (drop 8 text))
 
-bits_of_bytes : (count : ℕ) (text : List Bool) → length text ≡ 8 * count → bits_of (bytes_in count text) ≡ text
-unfolding bytes_in bits_of
+bits_of_bytes : (count : ℕ) (text : List Bool) → length text ≡ 8 * count → bits_of (bytes_filled count text) ≡ text
+unfolding bytes_filled bits_of
 bits_of_bytes zero [] e = refl
 bits_of_bytes zero (b ∷ text) e = absurd (omega arith)
 bits_of_bytes (suc count) text e =
     let long : length (take 8 text) ≡ 8 = length-take-le 8 text (omega arith) in
     let one : spelled 8 (number (take 8 text)) ≡ take 8 text = ap (λ (n : ℕ). spelled n (number (take 8 text)))
     (sym long) ∙ spelled-number (take 8 text) in
-    let rest : bits_of (bytes_in count (drop 8 text)) ≡ drop 8 text = bits_of_bytes count (drop 8 text)
+    let rest : bits_of (bytes_filled count (drop 8 text)) ≡ drop 8 text = bits_of_bytes count (drop 8 text)
     (omega (arith, length-drop 8 text)) in
-    ap (λ (t : List Bool). t ++ bits_of (bytes_in count (drop 8 text))) one
+    ap (λ (t : List Bool). t ++ bits_of (bytes_filled count (drop 8 text))) one
     ∙ ap (λ (t : List Bool). take 8 text ++ t) rest ∙ take-append-drop 8 text
 
 length-rtp : (sequence timestamp : ℕ) → length (fields (rtp_fields false sequence timestamp)) ≡ 96
 unfolding spelled
 length-rtp sequence timestamp = refl
 
-length-opening : (plen pebit : ℕ) → length (fields (opening_fields plen pebit)) ≡ 16
+length-opening : (plen pebit : ℕ) → length (fields (payload_opening_fields plen pebit)) ≡ 16
 unfolding spelled
 length-opening plen pebit = refl
 
@@ -112,8 +113,8 @@ abbrev opening_of : ℕ → ℕ → Opening
 opening_of plen pebit = record { p = true; v = false; plen = plen; pebit = pebit }
 
 opening_spelt : (plen pebit : ℕ) → plen < 64 → pebit < 8
-    → Spells (opening false) (opening_of plen pebit) (fields (opening_fields plen pebit))
-unfolding opening Spells
+    → Spells (payload_opening false) (opening_of plen pebit) (fields (payload_opening_fields plen pebit))
+unfolding payload_opening Spells
 opening_spelt plen pebit few bits = (
   0,
   fields ((1, 1) ∷ (1, 0) ∷ (6, plen) ∷ (3, pebit) ∷ []),
@@ -145,10 +146,10 @@ opening_spelt plen pebit few bits = (
 )
 
 leading_spelt : (plen pebit : ℕ) → plen < 64 → pebit < 8
-    → Spells leading (opening_of plen pebit) (fields (opening_fields plen pebit))
+    → Spells leading (opening_of plen pebit) (fields (payload_opening_fields plen pebit))
 unfolding leading Spells
 leading_spelt plen pebit few bits =
-    let text = fields (opening_fields plen pebit) in
+    let text = fields (payload_opening_fields plen pebit) in
     (opening_of plen pebit, text, [], sym (append-nil text), opening_spelt plen pebit few bits, refl, (refl, refl))
 
 -- ---- a whole packet
@@ -162,26 +163,27 @@ pub record Fits (first : Packet) (e : Extra) (part : List ℕ) : Type 0 where
   pub short : length part ≤ 65400
 
 front_bits : (first : Packet) (e : Extra) → bits_of (front_of first e)
-    ≡ (fields (rtp_fields false first.sequence first.timestamp) ++ fields (opening_fields (length e.bytes) e.pebit))
+    ≡ (fields (rtp_fields false first.sequence first.timestamp)
+    ++ fields (payload_opening_fields (length e.bytes) e.pebit))
     ++ bits_of e.bytes
 front_bits first e =
     let rtp = fields (rtp_fields false first.sequence first.timestamp) in
-    let written = fields (opening_fields (length e.bytes) e.pebit) in
+    let written = fields (payload_opening_fields (length e.bytes) e.pebit) in
     let len : length (rtp ++ written) ≡ 8 * 14 = omega (
       arith,
       length-append rtp written,
       length-rtp first.sequence first.timestamp,
       length-opening (length e.bytes) e.pebit,
     ) in
-    bits_of-append (bytes_in 14 (rtp ++ written)) e.bytes
+    bits_of-append (bytes_filled 14 (rtp ++ written)) e.bytes
     ∙ ap (λ (t : List Bool). t ++ bits_of e.bytes) (bits_of_bytes 14 (rtp ++ written) len)
 
 packet_bits : (first : Packet) (e : Extra) (part : List ℕ)
     → bits_of (outgoing first e part) ≡ fields (rtp_fields false first.sequence first.timestamp)
-    ++ (fields (opening_fields (length e.bytes) e.pebit) ++ (bits_of e.bytes ++ bits_of part))
+    ++ (fields (payload_opening_fields (length e.bytes) e.pebit) ++ (bits_of e.bytes ++ bits_of part))
 packet_bits first e part =
     let rtp = fields (rtp_fields false first.sequence first.timestamp) in
-    let written = fields (opening_fields (length e.bytes) e.pebit) in
+    let written = fields (payload_opening_fields (length e.bytes) e.pebit) in
     bits_of-append (front_of first e) part ∙ ap (λ (t : List Bool). t ++ bits_of part) (front_bits first e)
     ∙ regroup rtp written (bits_of e.bytes) (bits_of part)
   where
@@ -192,17 +194,17 @@ packet_length : (first : Packet) (e : Extra) (part : List ℕ) → length (outgo
     ≡ 14 + length e.bytes + length part
 packet_length first e part =
     let text = fields (rtp_fields false first.sequence first.timestamp)
-    ++ fields (opening_fields (length e.bytes) e.pebit) in
+    ++ fields (payload_opening_fields (length e.bytes) e.pebit) in
     omega (
       arith,
       length-append (front_of first e) part,
-      length-append (bytes_in 14 text) e.bytes,
+      length-append (bytes_filled 14 text) e.bytes,
       length-bytes_in 14 text,
     )
 
-pub is_packet : AreRead → (format : Format) (first : Packet) (e : Extra) (part : List ℕ) (s : Slice)
+pub is_packet : AreRead → (format : Format) (first : Packet) (e : Extra) (part : List ℕ) (s : PacketSlice)
     (extra : Option Header) (begins : Bool) (front after : List Bool) → Fits first e part
-    → IsExtra format (length e.bytes) e.pebit extra (bits_of e.bytes) → IsBegun begins (bits_of part)
+    → IsExtra format (length e.bytes) e.pebit extra (bits_of e.bytes) → IsStartCodeRest begins (bits_of part)
     → begins ≡ is_none extra
     → bits_of part ≡ front ++ after → IsHeaded format extra s.header front
     → IsSliceText s.header begins s.first s.mbs after
@@ -210,7 +212,7 @@ pub is_packet : AreRead → (format : Format) (first : Packet) (e : Extra) (part
 is_packet below format first e part s extra begins front after fits is begun alone parts headed text =
     let bytes = outgoing first e part in
     let rtp = fields (rtp_fields false first.sequence first.timestamp) in
-    let written = fields (opening_fields (length e.bytes) e.pebit) in
+    let written = fields (payload_opening_fields (length e.bytes) e.pebit) in
     let whole = packet_bits first e part in
     let l1 : length rtp ≡ 96 = length-rtp first.sequence first.timestamp in
     let l2 : length written ≡ 16 = length-opening (length e.bytes) e.pebit in

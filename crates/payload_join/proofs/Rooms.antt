@@ -5,7 +5,7 @@ use Rattle.payload_join.specs.declared.giving.Giving.{Giving}
 use Rattle.payload_join.specs.Packet.{bytes_between}
 use Rattle.payload_join.specs.Split.{split_of}
 use Rattle.payload_join.specs.Places.{put_at}
-use Rattle.payload_join.specs.Fronts.{front_bytes}
+use Rattle.payload_join.specs.Fronts.{bytes_of_front}
 use Rattle.payload_join.specs.Giving.{fronted, left_of_unit, left_in}
 use Rattle.payload_join.proofs.Between.{between_put, between_after, between_take, between_drop}
 
@@ -15,12 +15,12 @@ fronted_same front [] = refl
 fronted_same front (part ∷ parts) = refl
 
 -- the last part is given
-pub built_last : (g : Giving) (room : List ℕ) (p : ℕ) → g.is_left ≡ true → p + length (front_bytes g.front) ≡ g.at
+pub built_last : (g : Giving) (room : List ℕ) (p : ℕ) → g.is_left ≡ true → p + length (bytes_of_front g.front) ≡ g.at
     → g.at ≤ g.to → g.to ≤ length room
-    → left_of_unit g (bytes_between room g.at g.to) ≡ (front_bytes g.front ++ bytes_between room g.at g.to) ∷ []
-    → left_in g room ≡ bytes_between (put_at room p (front_bytes g.front)) p g.to ∷ []
+    → left_of_unit g (bytes_between room g.at g.to) ≡ (bytes_of_front g.front ++ bytes_between room g.at g.to) ∷ []
+    → left_in g room ≡ bytes_between (put_at room p (bytes_of_front g.front)) p g.to ∷ []
 built_last g room p left at order end last =
-    let f : List ℕ = front_bytes g.front in
+    let f : List ℕ = bytes_of_front g.front in
     (ap (λ (b : Bool). cond b (left_of_unit g (bytes_between room g.at g.to)) []) left)
     ∙ last
     ∙ ap (λ (l : List ℕ). l ∷ []) (ap (λ (k : ℕ). f ++ bytes_between room k g.to) (sym at)
@@ -28,14 +28,14 @@ built_last g room p left at order end last =
 
 -- a part is given, and others are left
 pub built_cut : (g : Giving) (room : List ℕ) (p len : ℕ) → g.is_left ≡ true → g.splits ≡ true
-    → p + length (front_bytes g.front) ≡ g.at → g.at + len + 2 < g.to → g.to ≤ length room
+    → p + length (bytes_of_front g.front) ≡ g.at → g.at + len + 2 < g.to → g.to ≤ length room
     → split_of (bytes_between room g.at g.to) ≡ take len (bytes_between room g.at g.to) ∷ split_of
     (drop (len + 2) (bytes_between room g.at g.to))
-    → left_in g room ≡ bytes_between (put_at room p (front_bytes g.front)) p (g.at + len) ∷ left_in
-    (record g { at = g.at + len + 2; front = g.other }) (put_at room p (front_bytes g.front))
+    → left_in g room ≡ bytes_between (put_at room p (bytes_of_front g.front)) p (g.at + len) ∷ left_in
+    (record g { at = g.at + len + 2; front = g.other }) (put_at room p (bytes_of_front g.front))
 built_cut g room p len left splits at order end cut =
-    let f : List ℕ = front_bytes g.front in
-    let o : List ℕ = front_bytes g.other in
+    let f : List ℕ = bytes_of_front g.front in
+    let o : List ℕ = bytes_of_front g.other in
     let coded : List ℕ = bytes_between room g.at g.to in
     let new : List ℕ = put_at room p f in
     let rest : drop (len + 2) coded ≡ bytes_between new (g.at + len + 2) g.to =

@@ -10,13 +10,13 @@ use Rattle.h263_bits.specs.Syntax.{any, only, Spells}
 use Rattle.picture_header.specs.declared.header.Header.{Header}
 use Rattle.picture_header.specs.Text.{allowed_quant, IsHeaderText}
 use Rattle.slice_layer.specs.Around.{Around, around, quant_after}
-use Rattle.slice_layer.specs.Head.{address_bits, allowed_first, reference, first_head, place, tail, later_head, head}
+use Rattle.slice_layer.specs.Head.{address_bits, allowed_first, slice_reference, first_head, place, tail, later_head, head_of_slice}
 use Rattle.slice_layer.specs.Text.{AreTexts, is_padding, IsSliceText}
 use Rattle.h263_bits.proofs.SyntaxLaws.{and_both}
 use Rattle.std.proofs.lemmas.Bool.{ltb-true}
 use Rattle.std.specs.List.{list_all}
 use Rattle.payload_join.specs.Laws.{HasZeros, NoStart}
-use Rattle.payload_join.specs.Slices.{IsPart}
+use Rattle.payload_join.specs.Slices.{IsSlicePart}
 use Rattle.payload_join.proofs.Zeros.{after_bit, zeros, zeros_then, zeros_add, seen, all_below, is_fine}
 use Rattle.payload_join.proofs.Kept.{Keeps, keeps_done, keeps_any, keeps_tried, keeps_part, keeps_less}
 use Rattle.payload_join.proofs.Macroblocks.{mb_keeps}
@@ -66,8 +66,8 @@ refers_tried : all_below 2 (is_fine 1 3 (only 1 faults.SliceReference) (λ _. 0)
 unfolding all_below zeros spelled
 refers_tried = refl
 
-reference_keeps : (trp : Option ℕ) → Keeps (reference trp) 3 (λ _. 10)
-unfolding reference
+reference_keeps : (trp : Option ℕ) → Keeps (slice_reference trp) 3 (λ _. 10)
+unfolding slice_reference
 reference_keeps None = keeps_any 1 (only 0 faults.SliceReference) _ 3 (λ _. 10) (λ refers. keeps_done tt 4 (λ _. 10)
     (omega arith))
 reference_keeps (Some trp) =
@@ -83,7 +83,7 @@ unfolding tail
 tail_keeps trp =
     keeps_any 2 any _ 0 (λ _. 0) (λ gfid.
     keeps_any 1 (only 0 faults.SliceReference) _ 2 (λ _. 0) (λ tri.
-    keeps_part (reference trp) any _ 3 (λ _. 10) (λ _. 0) (reference_keeps trp) (λ again.
+    keeps_part (slice_reference trp) any _ 3 (λ _. 10) (λ _. 0) (reference_keeps trp) (λ again.
     keeps_tried 2 (only 1 faults.Bci) _ 10 (λ _. 0) (λ _. 0) bci_tried (λ bci free.
     keeps_done tt 0 (λ _. 0) (omega arith)))))
 
@@ -104,14 +104,14 @@ texts_keep a quant before (m ∷ mbs) text h =
 
 -- a slice after its header
 first_keeps : (h : Header) (first quant : ℕ) (mbs : List Mb) (front held_after : List Bool)
-    → Spells (head h true) (first, quant) front → AreTexts (around h first) quant [] mbs held_after
+    → Spells (head_of_slice h true) (first, quant) front → AreTexts (around h first) quant [] mbs held_after
     → zeros 9 (front ++ held_after) ≤ 6
 first_keeps h first quant mbs front held_after opened each =
     zeros_then 9 6 6 front held_after (omega (arith, first_head_keeps h (first, quant) front opened))
     (texts_keep (around h first) quant [] mbs held_after each)
 
 later_keeps : (h : Header) (first quant : ℕ) (mbs : List Mb) (front held_after : List Bool)
-    → Spells (head h false) (first, quant) front → AreTexts (around h first) quant [] mbs held_after
+    → Spells (head_of_slice h false) (first, quant) front → AreTexts (around h first) quant [] mbs held_after
     → zeros 15 (front ++ held_after) ≤ 6
 later_keeps h first quant mbs front held_after opened each =
     zeros_then 15 6 6 front held_after (omega (arith, later_head_keeps h (first, quant) front opened))
@@ -168,7 +168,7 @@ no_starts = record {
 }
 
 -- what is coded of a slice, with the picture header before it or without
-pub part_quiet : (bytes : List ℕ) → IsPart bytes → zeros 15 (bits_of bytes) ≤ 13
+pub part_quiet : (bytes : List ℕ) → IsSlicePart bytes → zeros 15 (bits_of bytes) ≤ 13
 part_quiet bytes (inl x) =
     let s = x.1 in
     let p = x.2 in

@@ -11,16 +11,16 @@ use Rattle.h263_bits.specs.Syntax.{Spells, standing_at, reading, IsIn}
 use Rattle.h263_bits.proofs.SyntaxLaws.{bind_ok, ok_is, passed_if, bits_of-append, sound}
 use Rattle.picture_header.specs.declared.header.Header.{Header}
 use Rattle.rtp_header.specs.declared.rtp.Rtp.{Rtp}
-use Rattle.rtp_header.specs.Text.{Head, head, header, IsRtp}
+use Rattle.rtp_header.specs.Text.{Head, head, rtp_front, IsRtp}
 use Rattle.rtp_header.specs.Faults.{rtp_in}
 use Rattle.h263_payload.specs.declared.payload.Opening.{Opening}
-use Rattle.h263_payload.specs.Text.{opening, IsExtra}
+use Rattle.h263_payload.specs.Text.{payload_opening, IsExtra}
 use Rattle.h263_payload.specs.Faults.{payload_bits_of}
-use Rattle.packet_collector.specs.Packet.{Slice, IsPacket}
-use Rattle.payload_join.specs.Packet.{Packet, Extra, extra_of, bytes_between, extra_from, coded_from, opened_as, packet_after, packet_in}
-use Rattle.payload_join.specs.Split.{split_of, joined}
-use Rattle.payload_join.specs.Slices.{IsFirstPart, IsPart, EachIs, IsLaterOf, GoOn}
-use Rattle.payload_join.specs.Outgoing.{no_extra, outgoing, padded_bytes, header_of, begins_picture, each_out, picture_out, begun_out, unit_out, out_by, outgoing_of}
+use Rattle.packet_collector.specs.Packet.{PacketSlice, IsPacket}
+use Rattle.payload_join.specs.Packet.{Packet, Extra, extra_carried, bytes_between, extra_from, coded_from, opened_as, packet_after, packet_in}
+use Rattle.payload_join.specs.Split.{split_of, parts_joined}
+use Rattle.payload_join.specs.Slices.{IsFirstPart, IsSlicePart, EachIs, IsLaterOf, GoOn}
+use Rattle.payload_join.specs.Outgoing.{no_extra, outgoing, padded_bytes, header_copied, begins_picture, each_out, picture_out, begun_out, unit_out, out_by, outgoing_of}
 use Rattle.payload_join.specs.Outgoing.{coded_from as unit_bytes}
 use Rattle.payload_join.specs.Laws.{ArePacketsOfSlices}
 use Rattle.payload_join.proofs.Splits.{is_split}
@@ -36,7 +36,7 @@ pub record IsInFields (p : Packet) : Type 0 where
   pub bits : p.extra.pebit < 8
 
 rtp_fits : (r : Rtp) (bytes : List ℕ) → IsRtp r bytes → (r.sequence < 65536) × (r.timestamp < 4294967296)
-unfolding header head Spells
+unfolding rtp_front head Spells
 rtp_fits r bytes is =
     let h = is.text.0 in
     let fixed = is.text.4 in
@@ -50,8 +50,8 @@ rtp_fits r bytes is =
     ∙ value) in
     (omega (arith, a, sequence.2), omega (arith, b, timestamp.2))
 
-opening_fits : (o : Opening) (text : List Bool) → Spells (opening true) o text → (o.plen < 64) × (o.pebit < 8)
-unfolding opening Spells
+opening_fits : (o : Opening) (text : List Bool) → Spells (payload_opening true) o text → (o.plen < 64) × (o.pebit < 8)
+unfolding payload_opening Spells
 opening_fits o text is =
     let plen = is.5.5.5 in
     let pebit = plen.5 in
@@ -72,9 +72,10 @@ pub in_fields : AreRead → (bytes : List ℕ) (p : Packet) → packet_in bytes 
 unfolding packet_in packet_after
 in_fields below bytes p e =
     let r = bind_ok (rtp_in bytes) (packet_after bytes) p e in
-    let read = reading (opening true) (payload_bits_of bytes r.0) in
+    let read = reading (payload_opening true) (payload_bits_of bytes r.0) in
     let o = bind_ok (standing_at (8 * r.0.from) read) (λ x. opened_as bytes r.0 x.0) p r.2 in
-    let spelt = sound (opening true) (payload_bits_of bytes r.0) o.0.1 o.0.0 (standing_read (8 * r.0.from) read o.0 o.1)
+    let spelt = sound (payload_opening true) (payload_bits_of bytes r.0) o.0.1 o.0.0
+    (standing_read (8 * r.0.from) read o.0 o.1)
     in
     let rtp = rtp_fits r.0 bytes (below.rtp_read r.0 bytes r.1) in
     let fits = opening_fits o.0.0 spelt.0 spelt.2 in
@@ -84,7 +85,7 @@ in_fields below bytes p e =
       marker = r.0.marker;
       sequence = r.0.sequence;
       timestamp = r.0.timestamp;
-      extra = extra_of o.0.0.plen o.0.0.pebit extra;
+      extra = extra_carried o.0.0.plen o.0.0.pebit extra;
       coded = bytes_between bytes (coded_from r.0 o.0.0) r.0.to;
     } in
     let passed = passed_if (nat_lt r.0.to (coded_from r.0 o.0.0)) (record {
@@ -107,7 +108,7 @@ in_fields below bytes p e =
 -- ---- one packet each
 
 -- the later slices of a picture, each with its header
-later_packets : AreRead → (format : Format) (first : Packet) (e : Extra) (h : Header) (slices : List Slice)
+later_packets : AreRead → (format : Format) (first : Packet) (e : Extra) (h : Header) (slices : List PacketSlice)
     (parts : List (List ℕ))
     → first.sequence < 65536 → first.timestamp < 4294967296 → length e.bytes < 64 → e.pebit < 8
     → IsExtra format (length e.bytes) e.pebit (Some h) (bits_of e.bytes) → ((part : List ℕ) → IsIn part parts
@@ -133,7 +134,7 @@ later_packets below format first e h (slice ∷ slices) (part ∷ parts) s t few
     )
 
 -- a picture's first slice, with the picture header before it
-first_packet : AreRead → (format : Format) (first : Packet) (s : Slice) (part : List ℕ)
+first_packet : AreRead → (format : Format) (first : Packet) (s : PacketSlice) (part : List ℕ)
     → first.sequence < 65536 → first.timestamp < 4294967296 → length part ≤ 65400 → IsFirstPart format s part
     → IsPacket format s (outgoing first no_extra part)
 unfolding bits_of
@@ -152,29 +153,29 @@ first_packet below format first s part a b short is =
 -- ---- the parts of a unit
 
 -- each is no longer than all of them
-part_short : (parts : List (List ℕ)) (part : List ℕ) → IsIn part parts → length part ≤ length (joined parts)
+part_short : (parts : List (List ℕ)) (part : List ℕ) → IsIn part parts → length part ≤ length (parts_joined parts)
 part_short [] part there = absurd there
 part_short (p ∷ []) part (inl same) = omega (arith, ap (λ (l : List ℕ). length l) same)
 part_short (p ∷ []) part (inr there) = absurd there
 part_short (p ∷ q ∷ parts) part (inl same) = omega (
   arith,
   ap (λ (l : List ℕ). length l) same,
-  length-append p (0 ∷ 0 ∷ joined (q ∷ parts)),
+  length-append p (0 ∷ 0 ∷ parts_joined (q ∷ parts)),
 )
 part_short (p ∷ q ∷ parts) part (inr there) = omega (
   arith,
   part_short (q ∷ parts) part there,
-  length-append p (0 ∷ 0 ∷ joined (q ∷ parts)),
+  length-append p (0 ∷ 0 ∷ parts_joined (q ∷ parts)),
 )
 
 -- the first stands at the front
-joined_more : (part : List ℕ) (parts : List (List ℕ)) → (more : List ℕ) × (joined (part ∷ parts) ≡ part ++ more)
+joined_more : (part : List ℕ) (parts : List (List ℕ)) → (more : List ℕ) × (parts_joined (part ∷ parts) ≡ part ++ more)
 joined_more part [] = ([], sym (append-nil part))
-joined_more part (next ∷ parts) = (0 ∷ 0 ∷ joined (next ∷ parts), refl)
+joined_more part (next ∷ parts) = (0 ∷ 0 ∷ parts_joined (next ∷ parts), refl)
 
 -- each slice's part is the part of a slice
-are_parts : (h : Header) (slices : List Slice) (parts : List (List ℕ)) → EachIs (IsLaterOf h) slices parts
-    → (k : ℕ) (d : List ℕ) → k < length parts → IsPart (get_or parts k d)
+are_parts : (h : Header) (slices : List PacketSlice) (parts : List (List ℕ)) → EachIs (IsLaterOf h) slices parts
+    → (k : ℕ) (d : List ℕ) → k < length parts → IsSlicePart (get_or parts k d)
 are_parts h [] [] each k d lt = absurd (omega arith)
 are_parts h [] (part ∷ parts) each k d lt = absurd each
 are_parts h (s ∷ slices) [] each k d lt = absurd each
@@ -188,13 +189,14 @@ each_alike : (first : Packet) (e : Extra) (parts : List (List ℕ)) → each_out
 each_alike first e [] = refl
 each_alike first e (part ∷ parts) = refl
 
-going_on : AreRead → (format : Format) (first : Packet) (slices : List Slice) (parts : List (List ℕ)) → IsInFields first
-    → length (joined parts) ≤ 65400
+going_on : AreRead → (format : Format) (first : Packet) (slices : List PacketSlice) (parts : List (List ℕ))
+    → IsInFields first
+    → length (parts_joined parts) ≤ 65400
     → All (λ part. All (λ byte. byte < 256) part) parts → GoOn format first.extra slices parts
-    → EachIs (IsPacket format) slices (unit_out format first (joined parts))
+    → EachIs (IsPacket format) slices (unit_out format first (parts_joined parts))
 unfolding unit_out
 going_on below format first slices parts f short bytes is =
-    let coded = joined parts in
+    let coded = parts_joined parts in
     let e = first.extra in
     let fits : nat_lt 65400 (length coded) ≡ false = le-ltb 65400 (length coded) short in
     let some : nat_lt 0 (length e.bytes) ≡ true = lt-ltb 0 (length e.bytes) is.is.3 in
@@ -215,14 +217,15 @@ begun_is format first coded none short picture =
     let alone : nat_lt 0 (length first.extra.bytes) ≡ false = rw none refl in
     rw (fits, alone, picture) refl
 
-begin_parts : (format : Format) (s : Slice) (slices : List Slice) (part : List ℕ) (parts : List (List ℕ))
+begin_parts : (format : Format) (s : PacketSlice) (slices : List PacketSlice) (part : List ℕ) (parts : List (List ℕ))
     → IsFirstPart format s part → EachIs (IsLaterOf s.header) slices parts
-    → (k : ℕ) (d : List ℕ) → k < length (part ∷ parts) → IsPart (get_or (part ∷ parts) k d)
+    → (k : ℕ) (d : List ℕ) → k < length (part ∷ parts) → IsSlicePart (get_or (part ∷ parts) k d)
 begin_parts format s slices part parts is each zero d lt = inl (format, s, is)
 begin_parts format s slices part parts is each (suc k) d lt = are_parts s.header slices parts each k d (omega arith)
 
 -- the first slice, and the others with a copy of its header
-begun_packets : AreRead → (format : Format) (first : Packet) (s : Slice) (slices : List Slice) (part : List ℕ)
+begun_packets : AreRead → (format : Format) (first : Packet) (s : PacketSlice) (slices : List PacketSlice)
+    (part : List ℕ)
     (parts : List (List ℕ)) (coded : List ℕ) (rest : List Bool) → IsInFields first
     → (is : IsFirstPart format s part) → (parts ≡ []) ⊎ (length is.text ≤ 8 * 63) → bits_of coded ≡ is.text ++ rest
     → split_of coded ≡ part ∷ parts
@@ -236,7 +239,8 @@ begun_packets below format first s slices part (next ∷ parts) coded rest f is 
 begun_packets below format first s slices part (next ∷ parts) coded rest f is (inr few) whole cut each short head =
     let e = padded_bytes (length is.text) coded in
     let copy = is_copy below.headers format s.header coded is.text rest is.spelt whole few in
-    let out : picture_out first coded (header_of format coded) ≡ outgoing first no_extra part ∷ map (outgoing first e)
+    let out : picture_out first coded (header_copied format coded)
+    ≡ outgoing first no_extra part ∷ map (outgoing first e)
     (next ∷ parts) =
     ap (picture_out first coded) copy.found ∙ ap (each_out first no_extra e) cut in
     subst (EachIs (IsPacket format) (s ∷ slices)) (sym out) (
@@ -245,14 +249,14 @@ begun_packets below format first s slices part (next ∷ parts) coded rest f is 
           copy.is short each,
     )
 
-beginning : AreRead → (format : Format) (first : Packet) (s : Slice) (slices : List Slice) (part : List ℕ)
-    (parts : List (List ℕ)) → IsInFields first → length (joined (part ∷ parts)) ≤ 65400
+beginning : AreRead → (format : Format) (first : Packet) (s : PacketSlice) (slices : List PacketSlice) (part : List ℕ)
+    (parts : List (List ℕ)) → IsInFields first → length (parts_joined (part ∷ parts)) ≤ 65400
     → All (λ part. All (λ byte. byte < 256) part) (part ∷ parts) → first.extra.bytes ≡ []
     → (is : IsFirstPart format s part) → (parts ≡ []) ⊎ (length is.text ≤ 8 * 63)
     → EachIs (IsLaterOf s.header) slices parts
-    → EachIs (IsPacket format) (s ∷ slices) (unit_out format first (joined (part ∷ parts)))
+    → EachIs (IsPacket format) (s ∷ slices) (unit_out format first (parts_joined (part ∷ parts)))
 beginning below format first s slices part parts f short bytes none is few each =
-    let coded = joined (part ∷ parts) in
+    let coded = parts_joined (part ∷ parts) in
     let more = joined_more part parts in
     let begun = header_begun format s.header is.text is.spelt in
     let bits : bits_of part ≡ true ∷ false ∷ (begun.0 ++ is.slice) = is.parts
@@ -279,19 +283,21 @@ pub of_slices : AreRead → ArePacketsOfSlices
 unfolding outgoing_of
 of_slices below format at x k bytes first slices parts read there coded short small (inl is) =
     let f = in_fields below bytes first read in
-    let out : outgoing_of format at x k ≡ unit_out format first (joined parts) =
+    let out : outgoing_of format at x k ≡ unit_out format first (parts_joined parts) =
     ap (out_by format (unit_bytes at x (k + 1))) there ∙ ap (unit_out format first) coded in
-    let short_is : length (joined (is.part ∷ is.after)) ≤ 65400 =
-    subst (λ (p : List (List ℕ)). length (joined p) ≤ 65400) is.parts_are short in
+    let short_is : length (parts_joined (is.part ∷ is.after)) ≤ 65400 =
+    subst (λ (p : List (List ℕ)). length (parts_joined p) ≤ 65400) is.parts_are short in
     let small_are = subst (λ (p : List (List ℕ)). All (λ part. All (λ byte. byte < 256) part) p) is.parts_are small in
     subst (EachIs (IsPacket format) slices) (sym out)
-    (subst (λ (l : List Slice). EachIs (IsPacket format) l (unit_out format first (joined parts))) (sym is.slices_are)
-    (subst (λ (p : List (List ℕ)). EachIs (IsPacket format) (is.first ∷ is.others) (unit_out format first (joined p)))
+    (subst (λ (l : List PacketSlice). EachIs (IsPacket format) l (unit_out format first (parts_joined parts)))
+    (sym is.slices_are)
+    (subst (λ (p : List (List ℕ)). EachIs (IsPacket format) (is.first ∷ is.others)
+    (unit_out format first (parts_joined p)))
     (sym is.parts_are)
     (beginning below format first is.first is.others is.part is.after f short_is small_are is.none is.begun is.short
     is.each)))
 of_slices below format at x k bytes first slices parts read there coded short small (inr is) =
     let f = in_fields below bytes first read in
-    let out : outgoing_of format at x k ≡ unit_out format first (joined parts) =
+    let out : outgoing_of format at x k ≡ unit_out format first (parts_joined parts) =
     ap (out_by format (unit_bytes at x (k + 1))) there ∙ ap (unit_out format first) coded in
     subst (EachIs (IsPacket format) slices) (sym out) (going_on below format first slices parts f short small is)

@@ -7,7 +7,7 @@ use Rattle.std.proofs.lemmas.List.{get_or_append_left, length-take-le, length-dr
 use Rattle.std.proofs.Math.Seq.{get_or-append_seam}
 use Rattle.h263_region.specs.Slots.{Slots, bytes_in, with_out, out_of, IsOut, zeros}
 use Rattle.payload_join.specs.Places.{put_at}
-use Rattle.payload_join.specs.Ring.{IsHeld}
+use Rattle.h263_region.specs.Claimed.{IsHeld}
 
 -- the last slot is released
 pub released : {region new : Slots} {slots rest : List ℕ} (slot : ℕ) → IsHeld region slots → slots ≡ rest ++ slot ∷ []

@@ -6,11 +6,11 @@ use Rattle.h263_types.specs.declared.format.Format.{Format}
 use Rattle.payload_join.specs.declared.took.Took.TheVariants as tooks
 use Rattle.payload_join.specs.declared.units.Span.{Span}
 use Rattle.payload_join.specs.Packet.{Packet}
-use Rattle.payload_join.specs.Unit.{packet_at, begins_one, follows_one, is_marked, each_below, least_from, is_unit, unit_at}
+use Rattle.payload_join.specs.Unit.{held_packet, begins_one, follows_one, is_marked, each_below, least_from, is_unit, unit_at}
 use Rattle.payload_join.specs.Outgoing.{coded_one, coded_from, out_by, outgoing_of}
-use Rattle.payload_join.specs.Run.{Joined, number_of, top_with, took_as, with_packet, is_old, made_from, made}
-use Rattle.payload_join.specs.Places.{window, left_at, top_after, Shows}
-use Rattle.payload_join.specs.Units.{IsBefore, is_made, out_made, unit_left, number_by, IsFirst}
+use Rattle.payload_join.specs.Run.{JoinedSoFar, joined_number, top_with, took_as, with_packet, is_old, made_from, made}
+use Rattle.payload_join.specs.Places.{window_packet, left_at, top_after, Shows}
+use Rattle.payload_join.specs.Units.{IsBefore, is_made, out_made, unit_left, number_by, IsFirstUnit}
 use Rattle.payload_join.proofs.Growing.{At}
 use Rattle.payload_join.proofs.AnyOrder.{one_held, kept_at}
 use Rattle.payload_join.proofs.Windows.{IsWindow, holding_is}
@@ -84,10 +84,10 @@ out_moved format at bt n y d same = ap (out_made format at (n + d) (y + d)) (uni
 record IsMoved (now : At) (packets : List (Option Packet)) (last d top : ℕ) : Type 0 where
   top_is : top ≡ last + d
   low : 63 ≤ last
-  same : (m : ℕ) → last < m + 64 → now (m + d) ≡ window packets last m
+  same : (m : ℕ) → last < m + 64 → now (m + d) ≡ window_packet packets last m
 
 along : (now : At) (packets : List (Option Packet)) (last d top y : ℕ) → IsMoved now packets last d top → last < y + 64
-    → (j : ℕ) → now (y + d + j) ≡ window packets last (y + j)
+    → (j : ℕ) → now (y + d + j) ≡ window_packet packets last (y + j)
 along now packets last d top y m lt j = let e : y + d + j ≡ y + j + d = omega arith in ap now e
     ∙ m.same (y + j) (omega arith)
 
@@ -122,33 +122,33 @@ before_is now packets last d top n y m le b =
 -- what the two units give is what is made whole
 both_made : (format : Format) (before now : At) (packets : List (Option Packet)) (last d top n : ℕ) (u v : Option Span)
     → IsMoved now packets last d top → IsStep before now (n + d) top
-    → IsFirst format packets last n u → unit_left format packets v
-    ≡ out_made format (window packets last) n n (unit_at (window packets last) n)
+    → IsFirstUnit format packets last n u → unit_left format packets v
+    ≡ out_made format (window_packet packets last) n n (unit_at (window_packet packets last) n)
     → unit_left format packets u ++ unit_left format packets v ≡ made_from format before now (top - 63) 64
 both_made format before now packets last d top n u v m step (inl first) second =
     let y : ℕ = first.0 in
     let upto = step.upto in let young = step.young in let e = m.top_is in
     let from = first.1.from in let below = first.1.below in
     let le : n ≤ last = omega arith in
-    let one = first.2 ∙ sym (out_moved format now (window packets last) n y d
+    let one = first.2 ∙ sym (out_moved format now (window_packet packets last) n y d
     (along now packets last d top y m (omega arith))) in
-    let two = second ∙ sym (out_moved format now (window packets last) n n d
+    let two = second ∙ sym (out_moved format now (window_packet packets last) n n d
     (along now packets last d top n m (omega arith))) in
     (λ i. one i ++ two i) ∙ sym (made_two format before now (n + d) top (y + d) step
     (from_is now packets last d top n y m le first.1))
 both_made format before now packets last d top n u v m step (inr none) second =
     let upto = step.upto in let young = step.young in let e = m.top_is in
     let le : n ≤ last = omega arith in
-    let two = second ∙ sym (out_moved format now (window packets last) n n d
+    let two = second ∙ sym (out_moved format now (window_packet packets last) n n d
     (along now packets last d top n m (omega arith))) in
     ap (λ (l : List (List ℕ)). l ++ unit_left format packets v) none.1 ∙ two
     ∙ sym (made_alone format before now (n + d) top step
     (λ y from. none.0 (y - d) (before_is now packets last d top n y m le from)))
 
-fresh_of : (s : Joined) (x : ℕ) → took_as s x ≡ tooks.Held → packet_at s.held x ≡ None
-fresh_of s x held = at (packet_at s.held x) refl
+fresh_of : (s : JoinedSoFar) (x : ℕ) → took_as s x ≡ tooks.Held → held_packet s.held x ≡ None
+fresh_of s x held = at (held_packet s.held x) refl
   where
-    at : (o : Option Packet) → packet_at s.held x ≡ o → o ≡ None
+    at : (o : Option Packet) → held_packet s.held x ≡ o → o ≡ None
     at None is = refl
     at (Some p) is = absurd (not_held (is_old s.top x) refl)
       where
@@ -157,24 +157,25 @@ fresh_of s x held = at (packet_at s.held x) refl
         not_held false e = let f : took_as s x ≡ tooks.Again = rw (e, is) refl in cc
 
 -- so all that goes out with a packet that is held
-pub goes_out : (format : Format) (top : Option ℕ) (packets : List (Option Packet)) (s : Joined) (sequence : ℕ)
+pub goes_out : (format : Format) (top : Option ℕ) (packets : List (Option Packet)) (s : JoinedSoFar) (sequence : ℕ)
     (p : Packet) (u v : Option Span) → Shows top packets s → IsWindow s → sequence < 65536 → length packets ≡ 64
-    → took_as s (number_of s.top sequence) ≡ tooks.Held
-    → IsFirst format (set (left_at top packets sequence) (sequence % 64) (Some p)) (top_after top sequence + 65536)
+    → took_as s (joined_number s.top sequence) ≡ tooks.Held
+    → IsFirstUnit format (set (left_at top packets sequence) (sequence % 64) (Some p)) (top_after top sequence + 65536)
     (number_by (top_after top sequence + 65536) sequence) u
     → unit_left format (set (left_at top packets sequence) (sequence % 64) (Some p)) v
-    ≡ out_made format (window (set (left_at top packets sequence) (sequence % 64) (Some p))
+    ≡ out_made format (window_packet (set (left_at top packets sequence) (sequence % 64) (Some p))
     (top_after top sequence + 65536)) (number_by (top_after top sequence + 65536) sequence)
     (number_by (top_after top sequence + 65536) sequence)
-    (unit_at (window (set (left_at top packets sequence) (sequence % 64) (Some p)) (top_after top sequence + 65536))
+    (unit_at (window_packet (set (left_at top packets sequence) (sequence % 64) (Some p))
+    (top_after top sequence + 65536))
     (number_by (top_after top sequence + 65536) sequence))
     → unit_left format (set (left_at top packets sequence) (sequence % 64) (Some p)) u
     ++ unit_left format (set (left_at top packets sequence) (sequence % 64) (Some p)) v
-    ≡ made format s.held (with_packet s (number_of s.top sequence) p)
-unfolding packet_at
+    ≡ made format s.held (with_packet s (joined_number s.top sequence) p)
+unfolding held_packet
 goes_out format top packets s sequence p u v shows w small long held first second =
     let h = holding_is top packets s sequence p shows w small long held in
-    let x : ℕ = number_of s.top sequence in
+    let x : ℕ = joined_number s.top sequence in
     let t : ℕ = top_with s.top x in
     let new : List (Option Packet) = set (left_at top packets sequence) (sequence % 64) (Some p) in
     let last : ℕ = top_after top sequence + 65536 in
@@ -183,7 +184,7 @@ goes_out format top packets s sequence p u v shows w small long held first secon
     let d : ℕ = t - last in
     let d_is : d ≡ 65536 * (t / 65536 - 1) = omega arith in
     let n_is : n + d ≡ x = omega arith in
-    let moved : IsMoved (packet_at (with_packet s x p).held) new last d t = record {
+    let moved : IsMoved (held_packet (with_packet s x p).held) new last d t = record {
       top_is = omega arith;
       low = omega arith;
       same = λ m lt. elim (cases_lt last m) [
@@ -194,11 +195,12 @@ goes_out format top packets s sequence p u v shows w small long held first secon
             ∙ sym (inside new last m le)
       ];
     } in
-    let step : IsStep (packet_at s.held) (packet_at (with_packet s x p).held) (n + d) t = record {
-      fresh = ap (packet_at s.held) n_is ∙ fresh_of s x held;
+    let step : IsStep (held_packet s.held) (held_packet (with_packet s x p).held) (n + d) t = record {
+      fresh = ap (held_packet s.held) n_is ∙ fresh_of s x held;
       same = λ m lt ne. kept_at t m (one_held x p ∷ s.held) lt ∙ (rw (ne_eqb x m (λ e. ne (sym (n_is ∙ e)))) refl);
       low = omega arith;
       upto = omega arith;
       young = omega arith;
     } in
-    both_made format (packet_at s.held) (packet_at (with_packet s x p).held) new last d t n u v moved step first second
+    both_made format (held_packet s.held) (held_packet (with_packet s x p).held) new last d t n u v moved step first
+    second

@@ -7,9 +7,9 @@ use Rattle.h263_types.specs.declared.format.Format.{Format}
 use Rattle.payload_join.specs.declared.took.Took.{Took}
 use Rattle.payload_join.specs.declared.took.Took.TheVariants as tooks
 use Rattle.payload_join.specs.Packet.{Packet, packet_in}
-use Rattle.payload_join.specs.Unit.{packet_at}
-use Rattle.payload_join.specs.Run.{Joined, number_of, took_as, took, is_held, held_after_as, held_after, given_as, given, joined_by, took_next, given_next}
-use Rattle.payload_join.specs.Places.{judged, top_after, holding_at, Shows}
+use Rattle.payload_join.specs.Unit.{held_packet}
+use Rattle.payload_join.specs.Run.{JoinedSoFar, joined_number, took_as, took, is_held, held_after_as, held_after, given_as, given, joined_by, took_next, given_next}
+use Rattle.payload_join.specs.Places.{packet_judged, top_after, holding_at, Shows}
 use Rattle.payload_join.specs.Units.{HasMade}
 use Rattle.payload_join.specs.Joining.{Joining}
 use Rattle.payload_join.proofs.AnyOrder.{no_some}
@@ -19,7 +19,7 @@ use Rattle.payload_join.proofs.Taken.{goes_out}
 -- a ring that is empty
 pub shows_nothing : (top : Option ℕ) (packets : List (Option Packet)) → top ≡ None → packets ≡ replicate 64 None
     → Shows top packets (joined_by [])
-unfolding joined_by packet_at
+unfolding joined_by held_packet
 shows_nothing top packets e f =
     record {
       top_is = e;
@@ -39,13 +39,13 @@ refused_stands top packets past bytes fault e shows = subst (Shows top packets) 
 
 -- ---- one that can
 
-after_not : (s : Joined) (p : Packet) (t : Took) → is_held t ≡ false → s ≡ held_after_as s p t
+after_not : (s : JoinedSoFar) (p : Packet) (t : Took) → is_held t ≡ false → s ≡ held_after_as s p t
 after_not s p tooks.Held e = absurd cc
 after_not s p tooks.Old e = refl
 after_not s p tooks.Again e = refl
 after_not s p (tooks.Refused fault) e = refl
 
-given_not : (format : Format) (s : Joined) (p : Packet) (t : Took) → is_held t ≡ false → [] ≡ given_as format s p t
+given_not : (format : Format) (s : JoinedSoFar) (p : Packet) (t : Took) → is_held t ≡ false → [] ≡ given_as format s p t
 given_not format s p tooks.Held e = absurd cc
 given_not format s p tooks.Old e = refl
 given_not format s p tooks.Again e = refl
@@ -63,16 +63,16 @@ pub record IsConsidered (top : Option ℕ) (packets : List (Option Packet)) (byt
   pub read : packet_in bytes ≡ Ok p
   pub small : p.sequence < 65536
   pub many : length packets ≡ 64
-  pub answer : t ≡ judged top packets p.sequence
+  pub answer : t ≡ packet_judged top packets p.sequence
 
 pub considered : (v j : Joining) (bytes : List ℕ) (p : Packet) (t : Took) → v ≡ j → packet_in bytes ≡ Ok p
-    → p.sequence < 65536 → t ≡ judged v.top v.packets p.sequence → length v.packets ≡ 64
+    → p.sequence < 65536 → t ≡ packet_judged v.top v.packets p.sequence → length v.packets ≡ 64
     → IsConsidered j.top j.packets bytes p t
 considered v j bytes p t view read small answer many = record {
   read = read;
   small = small;
   many = ap (λ (k : Joining). length k.packets) (sym view) ∙ many;
-  answer = answer ∙ ap (λ (k : Joining). judged k.top k.packets p.sequence) view;
+  answer = answer ∙ ap (λ (k : Joining). packet_judged k.top k.packets p.sequence) view;
 }
 
 module _ (top : Option ℕ) (packets : List (Option Packet)) (bytes : List ℕ) (p : Packet) (t : Took)
@@ -96,7 +96,7 @@ module _ (top : Option ℕ) (packets : List (Option Packet)) (bytes : List ℕ) 
   pub not_left : (format : Format) → is_held t ≡ false → [] ≡ given_next format past bytes
   not_left format e = given_not format (joined_by past) p t e ∙ given_is format
 
-  is_taken : is_held t ≡ true → took_as (joined_by past) (number_of (joined_by past).top p.sequence) ≡ tooks.Held
+  is_taken : is_held t ≡ true → took_as (joined_by past) (joined_number (joined_by past).top p.sequence) ≡ tooks.Held
   is_taken e = sym as_is ∙ held_as t e
 
   pub held_stands : is_held t ≡ true → Shows (Some (top_after top p.sequence)) (holding_at top packets p.sequence p)

@@ -8,7 +8,7 @@ use Rattle.h263_bits.specs.Syntax.{any, done, field, either}
 use Rattle.code_tables.specs.declared.macroblock.Mcbpc.{Mcbpc}
 use Rattle.code_tables.specs.declared.macroblock.Mcbpc.TheVariants.{Stuffing, Word}
 use Rattle.code_tables.specs.Mcbpc.{class_texts, mcbpc_words, mcbpc_table, mcbpc, dquant_words, dquant_table, dquant}
-use Rattle.code_tables.specs.Tables.{Event, cbpy_texts, cbpy_words, cbpy_table, cbpy, magnitude_texts, magnitude_words, magnitude_table, mvd_parts, mvd, allowed_difference, signed, last_0_texts, last_1_texts, tcoef_words, event_table, after_word, allowed_level, event_parts, event}
+use Rattle.code_tables.specs.Tables.{TableEvent, cbpy_texts, cbpy_words, cbpy_table, cbpy, magnitude_texts, magnitude_words, magnitude_table, mvd_parts, mvd, allowed_difference, signed, last_0_texts, last_1_texts, tcoef_words, event_table, after_word, allowed_level, event_parts, event}
 use Rattle.payload_join.proofs.Zeros.{zeros, all_below, is_fine}
 use Rattle.payload_join.proofs.Kept.{Keeps, keeps_done, keeps_any, keeps_tried, keeps_code, keeps_element, keeps_either}
 
@@ -51,7 +51,7 @@ mvd_keeps = keeps_element mvd_parts allowed_difference done 5 (λ _. 5) (λ _. 5
     (λ x. keeps_done x 5 (λ _. 5) (omega arith))
 
 -- the escape's word ends with a 1, and another with five zeros at most
-abbrev behind_word : Option Event → ℕ
+abbrev behind_word : Option TableEvent → ℕ
 behind_word (Some e) = 5
 behind_word None = 0
 
@@ -60,7 +60,7 @@ levels_tried : all_below 256 (is_fine 8 7 allowed_level (λ _. 6)) ≡ true
 unfolding all_below zeros spelled
 levels_tried = refl
 
-after_keeps : (o : Option Event) → Keeps (after_word o) (behind_word o) (λ _. 6)
+after_keeps : (o : Option TableEvent) → Keeps (after_word o) (behind_word o) (λ _. 6)
 after_keeps (Some e) = keeps_any 1 any _ 5 (λ _. 6) (λ v. keeps_done _ 6 (λ _. 6) (omega arith))
 after_keeps None =
     keeps_any 1 any _ 0 (λ _. 6) (λ last. keeps_any 6 any _ 1 (λ _. 6) (λ run.

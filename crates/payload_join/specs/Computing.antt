@@ -8,11 +8,12 @@ use Rattle.picture_header.specs.Text.{back, back_turn, bci, channel, extended, e
 use Rattle.picture_header.specs.Text.{opening as picture_opening}
 use Rattle.rtp_header.specs.Text.{after_fixed, extension, head}
 use Rattle.rtp_header.specs.Faults.{rtp_in}
-use Rattle.h263_payload.specs.Text.{opening}
+use Rattle.h263_payload.specs.Text.{payload_opening}
 use Rattle.payload_join.specs.Packet.{packet_after, packet_in}
 use Rattle.payload_join.specs.Split.{split_of}
-use Rattle.payload_join.specs.Unit.{each_below, is_unit, least_from, packet_at, unit_at}
-use Rattle.payload_join.specs.Outgoing.{bytes_in, coded_from, header_of, outgoing_of, unit_out}
+use Rattle.payload_join.specs.Unit.{each_below, is_unit, least_from, held_packet, unit_at}
+use Rattle.h263_bits.specs.Bytes.{bytes_filled}
+use Rattle.payload_join.specs.Outgoing.{coded_from, header_copied, outgoing_of, unit_out}
 use Rattle.payload_join.specs.Run.{join_run, joined_by, made_from}
 use Rattle.payload_join.specs.Worked.{answers, follow_on, two_slices, header_of_63_bytes, header_of_64_bytes, window_ends, closed_by_the_next, extra_headers, sources_and_extension, copies, cut_packet, start_code_across_packets, two_pictures, out_of_order, slices_after_a_picture, no_end}
 use Rattle.payload_join.specs.WorkedPackets.{bytes_from, hex, follow_on_0, follow_on_1, two_slices_0, header_of_63_bytes_0, header_of_64_bytes_0, window_ends_0, window_ends_1, window_ends_2, window_ends_3, window_ends_4, window_ends_5, closed_by_the_next_0, closed_by_the_next_1, closed_by_the_next_2, extra_headers_0, extra_headers_1, extra_headers_2, extra_headers_3, extra_headers_4, sources_and_extension_0, sources_and_extension_1, sources_and_extension_2, sources_and_extension_3, sources_and_extension_4, sources_and_extension_5}
@@ -21,7 +22,8 @@ use Rattle.payload_join.specs.WorkedLogs.{copies_0, copies_1, copies_2, copies_3
 -- the definitions by which what becomes of a packet, and what goes out, are computed
 unfoldable pub whole_runs : ⊤
 unfolding answers join_run joined_by packet_in packet_after made_from each_below least_from is_unit unit_at
-    outgoing_of unit_out header_of coded_from split_of bytes_in packet_at rtp_in head after_fixed extension opening
+    outgoing_of unit_out header_copied coded_from split_of bytes_filled held_packet rtp_in head after_fixed extension
+    payload_opening
     reading number_at bits_of spelled number word_at found is_cut begins picture_opening plus_type multipoint
     extended channel reference back back_turn next_message bci extra extra_turn header message message_fault
     message_value marks_in flags bytes_from hex

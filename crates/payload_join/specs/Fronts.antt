@@ -9,20 +9,20 @@ use Rattle.picture_header.specs.declared.header.Header.{Header}
 use Rattle.picture_header.specs.Text.{header}
 use Rattle.rtp_header.specs.Text.{from_byte}
 use Rattle.rtp_header.specs.Written.{rtp_fields}
-use Rattle.h263_payload.specs.Written.{opening_fields}
+use Rattle.h263_payload.specs.Written.{payload_opening_fields}
 use Rattle.payload_join.specs.declared.front.Front.{Front}
 use Rattle.payload_join.specs.Packet.{Extra}
-use Rattle.payload_join.specs.Outgoing.{bytes_in}
+use Rattle.h263_bits.specs.Bytes.{bytes_filled}
 
 -- the bytes of a front
-abbrev pub front_bytes : Front → List ℕ
-front_bytes f = take f.len f.bytes
+abbrev pub bytes_of_front : Front → List ℕ
+bytes_of_front f = take f.len f.bytes
 
 -- RTP's header, and the payload header with its extra one
 abbrev pub front_by : ℕ → ℕ → Extra → List ℕ
 front_by sequence timestamp extra =
-    bytes_in 14 (fields (rtp_fields false sequence timestamp)
-    ++ fields (opening_fields (length extra.bytes) extra.pebit))
+    bytes_filled 14 (fields (rtp_fields false sequence timestamp)
+    ++ fields (payload_opening_fields (length extra.bytes) extra.pebit))
     ++ extra.bytes
 
 -- where the picture header ends that coded bytes begin with, if it takes 63 bytes at most

@@ -3,7 +3,7 @@ use Rattle.std.specs.Prelude.{ℕ, ◌≤◌, List, [], ◌∷◌, ◌++◌, map
 use Rattle.payload_join.specs.declared.giving.Giving.{Giving}
 use Rattle.payload_join.specs.Packet.{bytes_between}
 use Rattle.payload_join.specs.Split.{split_of}
-use Rattle.payload_join.specs.Fronts.{front_bytes}
+use Rattle.payload_join.specs.Fronts.{bytes_of_front}
 
 -- a front for the first part, and one for each other
 abbrev pub fronted : List ℕ → List ℕ → List (List ℕ) → List (List ℕ)
@@ -12,8 +12,8 @@ fronted first other (part ∷ parts) = (first ++ part) ∷ map (λ p. other ++ p
 
 abbrev pub left_of_unit : Giving → List ℕ → List (List ℕ)
 left_of_unit g coded =
-    if g.splits then fronted (front_bytes g.front) (front_bytes g.other) (split_of coded)
-    else (front_bytes g.front ++ coded) ∷ []
+    if g.splits then fronted (bytes_of_front g.front) (bytes_of_front g.other) (split_of coded)
+    else (bytes_of_front g.front ++ coded) ∷ []
 
 abbrev pub left_in : Giving → List ℕ → List (List ℕ)
 left_in g room = if g.is_left then left_of_unit g (bytes_between room g.at g.to) else []

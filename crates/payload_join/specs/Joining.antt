@@ -13,8 +13,8 @@ pub record Joining : Type 0 where
   pub given : List ℕ
 
 -- a joiner stands for the packets that it took, the newest first, whatever is left to be given
-abbrev pub Stands : Joining → List (List ℕ) → Type 0
-Stands j past = Shows j.top j.packets (joined_by past)
+abbrev pub JoinerStands : Joining → List (List ℕ) → Type 0
+JoinerStands j past = Shows j.top j.packets (joined_by past)
 
 -- the first outgoing packet that is left is given, and nothing else changes
 abbrev pub after_left : Joining → List (List ℕ) → Joining

@@ -6,11 +6,11 @@ use Rattle.picture_header.specs.declared.header.Header.{Header}
 use Rattle.picture_header.specs.Text.{IsHeaderText}
 use Rattle.slice_layer.specs.Text.{IsSliceText}
 use Rattle.h263_payload.specs.Text.{IsExtra}
-use Rattle.packet_collector.specs.Packet.{Slice}
+use Rattle.packet_collector.specs.Packet.{PacketSlice}
 use Rattle.payload_join.specs.Packet.{Extra}
 
 -- the coded bytes of a picture's first slice, with the picture header before it
-pub record IsFirstPart (format : Format) (s : Slice) (bytes : List ℕ) : Type 0 where
+pub record IsFirstPart (format : Format) (s : PacketSlice) (bytes : List ℕ) : Type 0 where
   pub text : List Bool
   pub slice : List Bool
   pub parts : bits_of bytes ≡ text ++ slice
@@ -18,13 +18,13 @@ pub record IsFirstPart (format : Format) (s : Slice) (bytes : List ℕ) : Type 0
   pub is : IsSliceText s.header true s.first s.mbs slice
 
 -- those of a later slice
-abbrev pub IsLaterPart : Slice → List ℕ → Type 0
+abbrev pub IsLaterPart : PacketSlice → List ℕ → Type 0
 IsLaterPart s bytes = IsSliceText s.header false s.first s.mbs (bits_of bytes)
 
-abbrev pub IsPart : List ℕ → Type 0
-IsPart bytes =
-    ((format : Format) × (s : Slice) × IsFirstPart format s bytes)
-    ⊎ ((s : Slice) × IsLaterPart s bytes)
+abbrev pub IsSlicePart : List ℕ → Type 0
+IsSlicePart bytes =
+    ((format : Format) × (s : PacketSlice) × IsFirstPart format s bytes)
+    ⊎ ((s : PacketSlice) × IsLaterPart s bytes)
 
 -- as many of one list as of the other, each pair so
 abbrev pub EachIs : {X Y : Type 0} → (X → Y → Type 0) → List X → List Y → Type 0
@@ -34,7 +34,7 @@ EachIs is (x ∷ xs) [] = ⊥
 EachIs is (x ∷ xs) (y ∷ ys) = is x y × EachIs is xs ys
 
 -- a later slice of the picture with this header
-abbrev pub IsLaterOf : Header → Slice → List ℕ → Type 0
+abbrev pub IsLaterOf : Header → PacketSlice → List ℕ → Type 0
 IsLaterOf h s bytes = (s.header ≡ h) × IsLaterPart s bytes
 
 -- ---- the slices of a unit, by the extra header of its first packet
@@ -42,10 +42,10 @@ IsLaterOf h s bytes = (s.header ≡ h) × IsLaterPart s bytes
 -- There is none, and the unit begins a picture: the picture header stands before its first slice.
 -- Where others follow, it takes 63 bytes at most.
 pub record BeginPicture (format : Format) (extra : Extra)
-    (slices : List Slice) (parts : List (List ℕ)) : Type 0 where
+    (slices : List PacketSlice) (parts : List (List ℕ)) : Type 0 where
   pub none : extra.bytes ≡ []
-  pub first : Slice
-  pub others : List Slice
+  pub first : PacketSlice
+  pub others : List PacketSlice
   pub part : List ℕ
   pub after : List (List ℕ)
   pub slices_are : slices ≡ first ∷ others
@@ -56,12 +56,12 @@ pub record BeginPicture (format : Format) (extra : Extra)
 
 -- it is the header of a picture, and the unit has later slices of it
 pub record GoOn (format : Format) (extra : Extra)
-    (slices : List Slice) (parts : List (List ℕ)) : Type 0 where
+    (slices : List PacketSlice) (parts : List (List ℕ)) : Type 0 where
   pub header : Header
   pub is : IsExtra format (length extra.bytes) extra.pebit (Some header) (bits_of extra.bytes)
   pub some : 0 < length parts
   pub each : EachIs (IsLaterOf header) slices parts
 
-abbrev pub AreSlices : Format → Extra → List Slice → List (List ℕ) → Type 0
+abbrev pub AreSlices : Format → Extra → List PacketSlice → List (List ℕ) → Type 0
 AreSlices format extra slices parts =
     BeginPicture format extra slices parts ⊎ GoOn format extra slices parts

@@ -12,7 +12,7 @@ use Rattle.payload_join.specs.WorkedPackets as p
 use Rattle.payload_join.specs.WorkedLogs as l
 use Rattle.payload_join.specs.WorkedPackets.{hex}
 
-pub record Call : Type 0 where
+pub record WorkedCall : Type 0 where
   -- that of the picture headers
   pub format : Format
   -- the packets that come in, one after the other, and what becomes of each
@@ -27,11 +27,11 @@ answers [] = []
 answers (bytes ∷ past) = answers past ++ took_next past bytes ∷ []
 
 -- it runs so
-pub record RunsSo (c : Call) : Type 0 where
+pub record RunsSo (c : WorkedCall) : Type 0 where
   pub each_is : answers (reverse c.packets) ≡ c.each
   pub out_is : join_run c.format (reverse c.packets) ≡ c.out
 
-unfoldable pub follow_on : Call
+unfoldable pub follow_on : WorkedCall
 follow_on =
     record {
       format = SubQcif;
@@ -41,7 +41,7 @@ follow_on =
           ++ (bytes_between p.follow_on_1 14 100 ++ bytes_between p.follow_on_0 14 256)) ∷ [];
     }
 
-unfoldable pub two_slices : Call
+unfoldable pub two_slices : WorkedCall
 two_slices =
     record {
       format = Cif;
@@ -52,7 +52,7 @@ two_slices =
           ++ (bytes_between p.two_slices_0 14 22 ++ bytes_between p.two_slices_0 1397 2653)) ∷ [];
     }
 
-unfoldable pub header_of_63_bytes : Call
+unfoldable pub header_of_63_bytes : WorkedCall
 header_of_63_bytes =
     record {
       format = SubQcif;
@@ -63,7 +63,7 @@ header_of_63_bytes =
           ++ (bytes_between p.header_of_63_bytes_0 14 76 ++ hex 5 (0x80c18010a0 ∷ []))) ∷ [];
     }
 
-unfoldable pub header_of_64_bytes : Call
+unfoldable pub header_of_64_bytes : WorkedCall
 header_of_64_bytes =
     record {
       format = SubQcif;
@@ -72,7 +72,7 @@ header_of_64_bytes =
       out = (hex 14 (0x8060000700000009483236330400 ∷ []) ++ bytes_between p.header_of_64_bytes_0 14 92) ∷ [];
     }
 
-unfoldable pub window_ends : Call
+unfoldable pub window_ends : WorkedCall
 window_ends =
     record {
       format = SubQcif;
@@ -82,7 +82,7 @@ window_ends =
       out = [];
     }
 
-unfoldable pub closed_by_the_next : Call
+unfoldable pub closed_by_the_next : WorkedCall
 closed_by_the_next =
     record {
       format = SubQcif;
@@ -92,7 +92,7 @@ closed_by_the_next =
           (hex 14 (0x8060000a00000009483236330400 ∷ []) ++ hex 4 (0xc102c304 ∷ [])) ∷ [];
     }
 
-unfoldable pub extra_headers : Call
+unfoldable pub extra_headers : WorkedCall
 extra_headers =
     record {
       format = SubQcif;
@@ -106,7 +106,7 @@ extra_headers =
           (hex 14 (0x806000080000000948323633040b ∷ []) ++ hex 2 (0xde80 ∷ [])) ∷ [];
     }
 
-unfoldable pub sources_and_extension : Call
+unfoldable pub sources_and_extension : WorkedCall
 sources_and_extension =
     record {
       format = SubQcif;
@@ -119,7 +119,7 @@ sources_and_extension =
           ++ (bytes_between p.sources_and_extension_2 14 79 ++ hex 2 (0x0000 ∷ []))))) ∷ [];
     }
 
-unfoldable pub copies : Call
+unfoldable pub copies : WorkedCall
 copies =
     record {
       format = SubQcif;
@@ -134,7 +134,7 @@ copies =
           ++ (bytes_between l.copies_4 14 109 ++ bytes_between l.copies_5 14 35)))))) ∷ [];
     }
 
-unfoldable pub cut_packet : Call
+unfoldable pub cut_packet : WorkedCall
 cut_packet =
     record {
       format = SubQcif;
@@ -145,7 +145,7 @@ cut_packet =
           ++ (bytes_between l.cut_packet_0 14 447 ++ bytes_between l.cut_packet_1 23 29)) ∷ [];
     }
 
-unfoldable pub start_code_across_packets : Call
+unfoldable pub start_code_across_packets : WorkedCall
 start_code_across_packets =
     record {
       format = SubQcif;
@@ -166,7 +166,7 @@ start_code_across_packets =
           ++ bytes_between l.start_code_across_packets_5 14 46)))))) ∷ [];
     }
 
-unfoldable pub two_pictures : Call
+unfoldable pub two_pictures : WorkedCall
 two_pictures =
     record {
       format = SubQcif;
@@ -176,7 +176,7 @@ two_pictures =
           (hex 14 (0x80607ff900000bbb483236330400 ∷ []) ++ bytes_between l.two_pictures_1 14 80) ∷ [];
     }
 
-unfoldable pub out_of_order : Call
+unfoldable pub out_of_order : WorkedCall
 out_of_order =
     record {
       format = SubQcif;
@@ -201,7 +201,7 @@ out_of_order =
           ++ (hex 1 (0xc0 ∷ []) ++ bytes_between l.out_of_order_15 335 573))) ∷ [];
     }
 
-unfoldable pub slices_after_a_picture : Call
+unfoldable pub slices_after_a_picture : WorkedCall
 slices_after_a_picture =
     record {
       format = SubQcif;
@@ -223,7 +223,7 @@ slices_after_a_picture =
           [];
     }
 
-unfoldable pub no_end : Call
+unfoldable pub no_end : WorkedCall
 no_end =
     record {
       format = SubQcif;

@@ -1,10 +1,10 @@
 //! What stands before the coded bytes of an outgoing packet.
 ghost use Rattle.std.specs.Prelude.{◌≡◌, ℕ, ◌+◌, ◌-◌, ◌*◌, ◌/◌, ◌^◌, ◌<◌, ◌≤◌, ◌++◌, length, slice_index, take, IfSome};
 ghost use Rattle.h263_bits.specs.Bits.{bits_of, fields};
-ghost use Rattle.h263_payload.specs.Written.{opening_fields};
+ghost use Rattle.h263_payload.specs.Written.{payload_opening_fields};
 ghost use Rattle.payload_join.specs.Places.{put_at};
 ghost use Rattle.payload_join.specs.Outgoing.{padded_bytes};
-ghost use Rattle.payload_join.specs.Fronts.{front_bytes, front_by, header_end};
+ghost use Rattle.payload_join.specs.Fronts.{bytes_of_front, front_by, header_end};
 
 use byteorder::{BigEndian, ByteOrder};
 use h263_bits::{BitReader, laws as h263_bits_laws};
@@ -29,7 +29,7 @@ pub(crate) const EMPTY: Front = Front {
 pub(crate) fn front_with(sequence: u16, timestamp: u32, extra: &[u8], pebit: u32) -> Front
     requires few { length extra.now < 64 }
     requires pebit { pebit < 8 }
-    ensures bytes { front_bytes result
+    ensures bytes { bytes_of_front result
         ≡ front_by sequence timestamp (record { bytes = extra.now; pebit = pebit }) }
     ensures len { result.len ≡ 14 + length extra.now }
 {
@@ -72,7 +72,7 @@ fn write_front(bytes: &mut [u8], rtp: &[u8], opening: &[u8], extra: &[u8])
 fn opening(plen: u32, pebit: u32) -> [u8; 2]
     requires few { plen < 64 }
     requires pebit { pebit < 8 }
-    ensures { bits_of result ≡ fields (opening_fields plen pebit) }
+    ensures { bits_of result ≡ fields (payload_opening_fields plen pebit) }
 {
     let mut bytes = [0; 2];
     BigEndian::write_u16(&mut bytes, (1024 + 8 * plen + pebit) as u16);
@@ -108,7 +108,7 @@ fn padded(byte: u8, padding: u32) -> u8
 pub(crate) fn padded_front(sequence: u16, timestamp: u32, coded: &[u8], bits: u32) -> Front
     requires short { bits ≤ 504 }
     requires there { bits ≤ 8 * length coded.now }
-    ensures bytes { front_bytes result
+    ensures bytes { bytes_of_front result
         ≡ front_by sequence timestamp (padded_bytes bits coded.now) }
     ensures len { result.len ≤ 77 }
 {

@@ -5,8 +5,8 @@ ghost use Rattle.payload_join.specs.Packet.{bytes_between};
 ghost use Rattle.payload_join.specs.Split.{split_of};
 ghost use Rattle.payload_join.specs.Outgoing.{begins_picture, coded_from, out_by, outgoing_of};
 ghost use Rattle.payload_join.specs.Places.{place_at};
-ghost use Rattle.payload_join.specs.Units.{IsWhole};
-ghost use Rattle.payload_join.specs.Fronts.{front_bytes};
+ghost use Rattle.payload_join.specs.Units.{IsWholeUnit};
+ghost use Rattle.payload_join.specs.Fronts.{bytes_of_front};
 ghost use Rattle.payload_join.specs.Giving.{IsGiving, left_in, left_of_unit};
 
 use crate::front::{EMPTY, Front, find_end, front_with, padded_front};
@@ -39,7 +39,7 @@ fn part_end(room: &[u8], giving: &Giving) -> Option<usize>
     requires size { length room.now ≡ 65535 }
     ensures none { let coded = bytes_between room.now giving.now.at giving.now.to in
         IsNone result → left_of_unit giving.now coded
-        ≡ (front_bytes giving.now.front ++ coded) ∷ [] }
+        ≡ (bytes_of_front giving.now.front ++ coded) ∷ [] }
     ensures splits { IfSome result (λ _. giving.now.splits ≡ true) }
     ensures there { IfSome result (λ len. giving.now.at + len + 2 < giving.now.to) }
     ensures some { let coded = bytes_between room.now giving.now.at giving.now.to in
@@ -139,7 +139,7 @@ impl Giving {
 
 // The coded bytes of a whole unit are laid into the room: all that goes out of it is left.
 pub(crate) fn lay(ring: &mut HeldPackets, unit: Span, format: Format) -> Giving
-    requires { IsWhole ring.old.packets unit }
+    requires { IsWholeUnit ring.old.packets unit }
     ensures left { left_in result ring.new.room
         ≡ outgoing_of format (place_at ring.old.packets) unit.number unit.follow }
     ensures is_left { result.is_left ≡ true }

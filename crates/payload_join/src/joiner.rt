@@ -4,11 +4,11 @@ ghost use Rattle.std.specs.Borrow.{sem};
 ghost use Rattle.h263_types.specs.declared.format.Format.{Format};
 ghost use Rattle.payload_join.specs.declared.took.Took.{Took};
 ghost use Rattle.payload_join.specs.Packet.{packet_in};
-ghost use Rattle.payload_join.specs.Parts.{IsInside, packet_of};
+ghost use Rattle.payload_join.specs.Parts.{ArePartsInside, packet_from_parts};
 ghost use Rattle.payload_join.specs.Places.{holding_at, top_after};
 ghost use Rattle.payload_join.specs.Units.{HasMade, IsWholeIf};
 ghost use Rattle.payload_join.specs.Giving.{IsGiving};
-ghost use Rattle.payload_join.specs.Left.{left_of};
+ghost use Rattle.payload_join.specs.Left.{left_in_room};
 ghost use Rattle.payload_join.specs.Run.{is_held, took_next, given_next};
 
 use crate::giving::{Giving, build, lay};
@@ -48,12 +48,12 @@ impl Model for Joiner {
 }
 
 impl Joiner {
-    ghost use Rattle.payload_join.specs.Joining.{Stands, after_next, is_left};
+    ghost use Rattle.payload_join.specs.Joining.{JoinerStands, after_next, is_left};
     ghost use Rattle.payload_join.specs.Ends.{EndsPast};
 
     /// A joiner that holds nothing. It takes all its memory: 64 packets and one outgoing packet.
     pub fn start(alloc: Global) -> Result<Joiner, OutOfMemory>
-        ensures stands { IfOk result (λ joiner. Stands joiner []) }
+        ensures stands { IfOk result (λ joiner. JoinerStands joiner []) }
         ensures none { IfOk result (λ joiner. joiner.left ≡ []) }
     {
         let ring = HeldPackets::start(alloc)?;
@@ -73,11 +73,11 @@ impl Joiner {
     pub fn take(&mut self, bytes: &[u8], format: Format) -> Took
         // What went out with the packet before was given.
         requires { self.old.left ≡ [] }
-        ensures answer { (past : List (List ℕ)) → Stands self.old past
+        ensures answer { (past : List (List ℕ)) → JoinerStands self.old past
             → result ≡ took_next past bytes.now }
-        ensures stands { (past : List (List ℕ)) → Stands self.old past
-            → Stands self.new (bytes.now ∷ past) }
-        ensures left { (past : List (List ℕ)) → Stands self.old past
+        ensures stands { (past : List (List ℕ)) → JoinerStands self.old past
+            → JoinerStands self.new (bytes.now ∷ past) }
+        ensures left { (past : List (List ℕ)) → JoinerStands self.old past
             → self.new.left ≡ given_next format past bytes.now }
         ensures same { is_held result ≡ false → self.new ≡ self.old }
     {
@@ -90,13 +90,13 @@ impl Joiner {
     // Takes a packet that can be read.
     fn consider(&mut self, bytes: &[u8], parts: Parts, format: Format) -> Took
         requires left { self.old.left ≡ [] }
-        requires inside { IsInside bytes.now parts }
-        requires read { packet_in bytes.now ≡ Ok (packet_of bytes.now parts) }
-        ensures answer { (past : List (List ℕ)) → Stands self.old past
+        requires inside { ArePartsInside bytes.now parts }
+        requires read { packet_in bytes.now ≡ Ok (packet_from_parts bytes.now parts) }
+        ensures answer { (past : List (List ℕ)) → JoinerStands self.old past
             → result ≡ took_next past bytes.now }
-        ensures stands { (past : List (List ℕ)) → Stands self.old past
-            → Stands self.new (bytes.now ∷ past) }
-        ensures left { (past : List (List ℕ)) → Stands self.old past
+        ensures stands { (past : List (List ℕ)) → JoinerStands self.old past
+            → JoinerStands self.new (bytes.now ∷ past) }
+        ensures left { (past : List (List ℕ)) → JoinerStands self.old past
             → self.new.left ≡ given_next format past bytes.now }
         ensures same { is_held result ≡ false → self.new ≡ self.old }
     {
@@ -111,11 +111,11 @@ impl Joiner {
     // Holds a packet, and finds what it makes whole.
     fn hold(&mut self, bytes: &[u8], parts: Parts, format: Format)
         requires left { self.old.left ≡ [] }
-        requires inside { IsInside bytes.now parts }
+        requires inside { ArePartsInside bytes.now parts }
         requires near { (top_after self.old.top parts.sequence + 65536 - parts.sequence) % 65536 < 64 }
         ensures top { self.new.top ≡ Some (top_after self.old.top parts.sequence) }
         ensures packets { self.new.packets ≡ holding_at self.old.top self.old.packets
-            parts.sequence (packet_of bytes.now parts) }
+            parts.sequence (packet_from_parts bytes.now parts) }
         ensures left { HasMade format self.old.top parts.sequence self.new.packets self.new.left }
     {
         let top = self.ring.hold(bytes, parts);
@@ -193,10 +193,10 @@ fn ready(
     requires is { IsGiving giving.old }
     requires first { IsWholeIf ring.old.packets first.old }
     requires second { IsWholeIf ring.old.packets second.old }
-    ensures left { left_of ring.new format first.new second.new giving.new
-        ≡ left_of ring.old format first.old second.old giving.old }
+    ensures left { left_in_room ring.new format first.new second.new giving.new
+        ≡ left_in_room ring.old format first.old second.old giving.old }
     ensures ready { result ≡ true → giving.new.is_left ≡ true }
-    ensures none { result ≡ false → left_of ring.old format first.old second.old giving.old ≡ [] }
+    ensures none { result ≡ false → left_in_room ring.old format first.old second.old giving.old ≡ [] }
     ensures same { result ≡ false → ring.new ≡ ring.old }
     ensures is { IsGiving giving.new }
     ensures first { IsWholeIf ring.old.packets first.new }

@@ -7,9 +7,10 @@ ghost use Rattle.payload_join.specs.Run.{is_held};
 ghost use Rattle.payload_join.specs.Unit.{begins_one, follows_one, is_marked};
 ghost use Rattle.payload_join.specs.Outgoing.{coded_one};
 ghost use Rattle.payload_join.specs.Packet.{bytes_between};
-ghost use Rattle.payload_join.specs.Parts.{IsInside, packet_of};
-ghost use Rattle.payload_join.specs.Places.{place_at, put_at, reach, judged, forgotten, passed, top_after, left_at, holding};
-ghost use Rattle.payload_join.specs.Ring.{IsHeld, IsEmptyRing, IsSeen, extra_one};
+ghost use Rattle.payload_join.specs.Parts.{ArePartsInside, packet_from_parts};
+ghost use Rattle.payload_join.specs.Places.{place_at, put_at, reach_above, packet_judged, forgotten, numbers_passed, top_after, left_at, holding};
+ghost use Rattle.h263_region.specs.Claimed.{IsHeld};
+ghost use Rattle.payload_join.specs.Ring.{IsEmptyRing, IsSeenPacket, extra_one};
 
 use crate::parts::Parts;
 use crate::took::Took;
@@ -31,15 +32,15 @@ pub(crate) struct HeldPackets {
 }
 
 impl Model for HeldPackets {
-    ghost use Rattle.payload_join.specs.Places.{Packets};
-    ghost use Rattle.payload_join.specs.Ring.{IsRing, packets_of, room_of};
+    ghost use Rattle.payload_join.specs.Places.{PacketPlaces};
+    ghost use Rattle.payload_join.specs.Ring.{IsRing, slot_packets, last_room};
 
-    ghost Value = { Packets };
+    ghost Value = { PacketPlaces };
 
     ghost view = { λ r. record {
       top = r.top;
-      packets = packets_of r.region r.slots.items r.parts.items;
-      room = room_of r.region r.slots.items;
+      packets = slot_packets r.region r.slots.items r.parts.items;
+      room = last_room r.region r.slots.items;
     } };
 
     ghost invariant = { λ r. IsRing r.region r.slots.items r.parts.items };
@@ -71,7 +72,7 @@ impl HeldPackets {
 
     // What becomes of a packet that can be read.
     pub(crate) fn judge(&self, sequence: u16) -> Took
-        ensures answer { result ≡ judged self.now.top self.now.packets sequence }
+        ensures answer { result ≡ packet_judged self.now.top self.now.packets sequence }
         ensures near { is_held result ≡ true
             → (top_after self.now.top sequence + 65536 - sequence) % 65536 < 64 }
         ensures many { length self.now.packets ≡ 64 }
@@ -95,8 +96,8 @@ impl HeldPackets {
     // A packet is held, and those that lie 64 and more below the greatest number are forgotten.
     // The greatest number is answered.
     pub(crate) fn hold(&mut self, bytes: &[u8], parts: Parts) -> u16
-        requires { IsInside bytes.now parts }
-        ensures holds { self.new ≡ holding self.old parts.sequence (packet_of bytes.now parts) }
+        requires { ArePartsInside bytes.now parts }
+        ensures holds { self.new ≡ holding self.old parts.sequence (packet_from_parts bytes.now parts) }
         ensures top { result ≡ top_after self.old.top parts.sequence }
     {
         let sequence = parts.sequence;
@@ -152,7 +153,7 @@ impl HeldPackets {
 
     // What was read of it.
     pub(crate) fn seen(&self, number: u32) -> Option<Parts>
-        ensures { IsSeen result (place_at self.now.packets number) }
+        ensures { IsSeenPacket result (place_at self.now.packets number) }
     {
         self.parts[(number % 64) as usize]
     }
@@ -231,7 +232,7 @@ impl HeldPackets {
 
 // How far a sequence number lies above the number 32,768 below the greatest one.
 fn reach(top: u16, sequence: u16) -> u32
-    ensures exact { result ≡ reach top sequence }
+    ensures exact { result ≡ reach_above top sequence }
     ensures below { result < 65536 }
 {
     (sequence as u32 + 98_304 - top as u32) % 65_536

@@ -1,10 +1,10 @@
 //! Where coded bytes are cut into parts.
 ghost use Rattle.std.specs.Prelude.{◌≡◌, ◌+◌, ◌<◌, [], ◌∷◌, length, take, drop, IsNone, IfSome};
-ghost use Rattle.payload_join.specs.Split.{is_cut, split_of, starts};
+ghost use Rattle.payload_join.specs.Split.{starts_part, split_of, starts_code};
 
 // Whether these are two bytes of zeros and a byte of at least 128.
 fn are_start(a: u8, b: u8, c: u8) -> bool
-    ensures { result ≡ starts a b c }
+    ensures { result ≡ starts_code a b c }
 {
     a == 0 && b == 0 && c >= 128
 }
@@ -13,7 +13,7 @@ fn are_start(a: u8, b: u8, c: u8) -> bool
 #[tactic(auto, using(crate::proofs::Cuts::cut_is))]
 fn is_cut(bytes: &[u8], at: usize) -> bool
     requires { at + 2 < length bytes.now }
-    ensures { result ≡ is_cut (drop at bytes.now) }
+    ensures { result ≡ starts_part (drop at bytes.now) }
 {
     are_start(bytes[at], bytes[at + 1], bytes[at + 2])
 }

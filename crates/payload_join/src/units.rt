@@ -4,8 +4,8 @@ ghost use Rattle.h263_types.specs.declared.format.Format.{Format};
 ghost use Rattle.payload_join.specs.Packet.{Packet};
 ghost use Rattle.payload_join.specs.Unit.{begins_one, is_marked, unit_at};
 ghost use Rattle.payload_join.specs.Outgoing.{coded_from};
-ghost use Rattle.payload_join.specs.Places.{place_at, window};
-ghost use Rattle.payload_join.specs.Units.{IsBefore, IsFirst, IsSecond, IsWholeIf, number_by, out_made, unit_left};
+ghost use Rattle.payload_join.specs.Places.{place_at, window_packet};
+ghost use Rattle.payload_join.specs.Units.{IsBefore, IsFirstUnit, IsSecond, IsWholeIf, number_by, out_made, unit_left};
 
 use crate::ring::HeldPackets;
 
@@ -44,7 +44,7 @@ pub(crate) fn unit_from(ring: &HeldPackets, first: u32, last: u32) -> Option<u32
     requires order { first ≤ last }
     requires few { last < first + 64 }
     requires fits { last < 2 ^ 31 }
-    ensures exact { result ≡ unit_at (window ring.now.packets last) first }
+    ensures exact { result ≡ unit_at (window_packet ring.now.packets last) first }
     ensures upto { IfSome result (λ follow. first + follow ≤ last) }
 {
     if !ring.begins(first) {
@@ -104,8 +104,8 @@ pub(crate) fn made_by(ring: &HeldPackets, number: u32, first: u32, last: u32) ->
     requires few { last < first + 64 }
     requires fits { last < 2 ^ 31 }
     ensures out { (format : Format) → unit_left format ring.now.packets result
-        ≡ out_made format (window ring.now.packets last) number first
-        (unit_at (window ring.now.packets last) first) }
+        ≡ out_made format (window_packet ring.now.packets last) number first
+        (unit_at (window_packet ring.now.packets last) first) }
     ensures whole { IsWholeIf ring.now.packets result }
 {
     let follow = unit_from(ring, first, last)?;
@@ -128,7 +128,7 @@ fn first_made(ring: &HeldPackets, number: u32, last: u32) -> Option<Span>
     requires few { last < number + 64 }
     requires low { 65536 ≤ last }
     requires fits { last < 2 ^ 31 }
-    ensures out { (format : Format) → IsFirst format ring.now.packets last number result }
+    ensures out { (format : Format) → IsFirstUnit format ring.now.packets last number result }
     ensures whole { IsWholeIf ring.now.packets result }
 {
     match start_before(ring, last - 63, number) {
@@ -148,7 +148,7 @@ pub(crate) struct Made {
 // What the packet of a sequence number made whole. `top` is the greatest number's.
 pub(crate) fn made_with(ring: &HeldPackets, top: u16, sequence: u16) -> Made
     requires { (top + 65536 - sequence) % 65536 < 64 }
-    ensures first { (format : Format) → IsFirst format ring.now.packets (top + 65536)
+    ensures first { (format : Format) → IsFirstUnit format ring.now.packets (top + 65536)
         (number_by (top + 65536) sequence) result.first }
     ensures second { (format : Format) → IsSecond format ring.now.packets (top + 65536)
         (number_by (top + 65536) sequence) result.second }

@@ -8,16 +8,16 @@ use Rattle.picture_header.specs.declared.header.Header.{Header}
 use Rattle.picture_recon.specs.Shown.{ShowsFirst}
 use Rattle.picture_recon.specs.Undrawn.{undrawn_mb}
 use Rattle.packet_cutter.specs.declared.cutter.Cutter.{Cutter}
-use Rattle.packet_cutter.specs.Cutting.{Holds, IsBegun, added_of, format_of, kind_of, quant_of}
+use Rattle.packet_cutter.specs.Cutting.{HoldsMbs, IsPictureBegun, added_of, cut_format, cutter_kind, cutter_quant}
 
 -- the cutter holds the first `count` macroblocks of picture `number`
 pub record HoldsFirst (number : ℕ) (h : Header) (mbs : List Mb) (count : ℕ) (c : Cutter) : Type 0 where
-  pub begun : IsBegun c
-  pub holds : Holds c number h (take count mbs)
+  pub begun : IsPictureBegun c
+  pub holds : HoldsMbs c number h (take count mbs)
   pub added : added_of c ≡ count
-  pub kind : kind_of c ≡ h.kind
-  pub quant : quant_of c ≡ h.quant
-  pub format : format_of c ≡ h.format
+  pub kind : cutter_kind c ≡ h.kind
+  pub quant : cutter_quant c ≡ h.quant
+  pub format : cut_format c ≡ h.format
 
 -- the picture shows the first `count` macroblocks
 pub record HasShown (h : Header) (reference : Option Picture) (mbs : List Mb) (count : ℕ) (p : Picture) : Type 0 where

@@ -11,7 +11,7 @@ ghost use Rattle.h263_planes.specs.Work as lent;
 ghost use Rattle.picture_header.specs.Ranges.{IsHeader};
 ghost use Rattle.mode_choice.specs.Choice.{choices_of};
 ghost use Rattle.picture_recon.specs.Samples.{reconstruction};
-ghost use Rattle.packet_cutter.specs.Cutting.{Holds, added_of, format_of, limit_of, packets_of, sequence_of};
+ghost use Rattle.packet_cutter.specs.Cutting.{HoldsMbs, added_of, cut_format, limit_of, cutter_packets, sequence_of};
 ghost use Rattle.packet_cutter.specs.Packets.{ArePacketsOf};
 
 use h263_planes::{PictureMut, PictureRef};
@@ -41,19 +41,19 @@ pub fn code_picture(
     requires frame_format { (picture frame).format ≡ params.now.format }
     requires reference { HasReferenceOnlyInP header.now.kind params.now.format
         (option_map picture reference) }
-    requires cutter_format { format_of cutter.old ≡ params.now.format }
+    requires cutter_format { cut_format cutter.old ≡ params.now.format }
     requires cutter_limit { limit_of cutter.old ≡ params.now.limit }
     requires work_format { (lent.work work.old).format ≡ params.now.format }
 
     ensures packets { ArePacketsOf number
         (sequence_of cutter.old) header.now params.now.limit (choices_of (picture frame.entry)
-        (option_map picture reference.entry) header.now params.now) (packets_of cutter.new) }
+        (option_map picture reference.entry) header.now params.now) (cutter_packets cutter.new) }
     ensures sequence { sequence_of cutter.new
-        ≡ (sequence_of cutter.old + length (packets_of cutter.new)) % 65536 }
-    ensures cutter_format { format_of cutter.new ≡ params.now.format }
+        ≡ (sequence_of cutter.old + length (cutter_packets cutter.new)) % 65536 }
+    ensures cutter_format { cut_format cutter.new ≡ params.now.format }
     ensures cutter_limit { limit_of cutter.new ≡ params.now.limit }
     // No other picture is begun: the cutter holds all macroblocks of this one.
-    ensures held { Holds cutter.new number header.now
+    ensures held { HoldsMbs cutter.new number header.now
         (choices_of (picture frame.entry) (option_map picture reference.entry)
         header.now params.now) }
     ensures all_added { added_of cutter.new ≡ mbs_of params.now.format }

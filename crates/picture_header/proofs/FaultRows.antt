@@ -19,7 +19,7 @@ use Rattle.back_messages.specs.declared.message.Message.{Message}
 use Rattle.back_messages.specs.declared.message.MessageFault.{MessageFault}
 use Rattle.back_messages.specs.Text.{message_fault, message_value, is_long, has_markers, allowed_message, allowed_markers, flags, message}
 use Rattle.back_messages.specs.Laws.{MessageLaws}
-use Rattle.picture_header.specs.Text.{format_code, allowed_format, allowed_kind, allowed_divisor, allowed_channel, allowed_low, allowed_quant, opening, plus_type, multipoint, extended, channel, reference, has_room, bci, next_message, back_turn, back, header}
+use Rattle.picture_header.specs.Text.{format_code, allowed_format, allowed_kind, allowed_divisor, allowed_channel, allowed_low, allowed_quant, opening, plus_type, multipoint, extended, channel, reference, bci_room, bci, next_message, back_turn, back, header}
 use Rattle.picture_header.specs.Faults.{OpeningFaults, PlusTypeFaults, MiddleFaults, MessageFaults, PartFaults, HeaderFaults}
 use Rattle.picture_header.proofs.Loops.{simple_productive, extended_productive, reference_productive, bci_productive, next_productive, back_some, back_productive, header_productive}
 
@@ -305,23 +305,23 @@ bci_end = fault_after_field 1 any _ 0 (fields ((1, 0) ∷ [])) faults.Bci 0 (ome
 
 bci_row : (clock : Clock) (used : ℕ) → HasFault (next_message clock used) (fields ((1, 0) ∷ (1, 0) ∷ [])) faults.Bci 0
 unfolding next_message
-bci_row clock used = fault_in_element bci (has_room used) _ (fields ((1, 0) ∷ (1, 0) ∷ [])) faults.Bci 1 bci_end
+bci_row clock used = fault_in_element bci (bci_room used) _ (fields ((1, 0) ∷ (1, 0) ∷ [])) faults.Bci 1 bci_end
 
 bci_more : Spells bci 1 (fields ((1, 1) ∷ []))
 unfolding bci
 bci_more = spells_field 1 any (λ more. either (eqb more 0) (field 1 (only 1 faults.Bci) λ end. done 0) (done 1)) 1 1 []
     (omega arith) refl (spells_done 1)
 
-no_room : (used : ℕ) → 4 ≤ used → has_room used 1 ≡ Some faults.ManyMessages
+no_room : (used : ℕ) → 4 ≤ used → bci_room used 1 ≡ Some faults.ManyMessages
 no_room used le = rw (le-ltb used 4 le) refl
 
-room : (used : ℕ) → used < 4 → has_room used 1 ≡ None
+room : (used : ℕ) → used < 4 → bci_room used 1 ≡ None
 room used lt = rw (lt-ltb used 4 lt) refl
 
 many_row : (clock : Clock) (used : ℕ) → 4 ≤ used
     → HasFault (next_message clock used) (fields ((1, 1) ∷ [])) faults.ManyMessages 0
 unfolding next_message spelled
-many_row clock used le = fault_of_element bci (has_room used) _ 1 (fields ((1, 1) ∷ [])) [] faults.ManyMessages
+many_row clock used le = fault_of_element bci (bci_room used) _ 1 (fields ((1, 1) ∷ [])) [] faults.ManyMessages
     bci_productive bci_more (no_room used le)
 
 bad_message : (clock : Clock) (n : ℕ) (fault : MessageFault) → message_fault clock (is_long n) n ≡ Some fault
@@ -343,7 +343,7 @@ after_bci : (clock : Clock) (used : ℕ) (text : List Bool) (kind : FaultKind) (
     (1 + place)
 unfolding next_message spelled
 after_bci clock used text kind place lt h =
-    fault_after_element bci (has_room used) _ 1 (fields ((1, 1) ∷ [])) text kind place bci_productive bci_more
+    fault_after_element bci (bci_room used) _ 1 (fields ((1, 1) ∷ [])) text kind place bci_productive bci_more
     (room used lt)
     (fault_in_part (message clock) any (λ m. done (Some m)) text kind place h)
 

@@ -2,7 +2,7 @@
 use Rattle.std.proofs.Common.{◌≡◌, ℕ, ◌<◌, List, [], ◌∷◌, ◌++◌, length, Option, Some, None, Ok, Err, refl, arith}
 use Rattle.std.specs.Prelude.{◌==◌}
 use Rattle.std.proofs.Math.ListN.{set}
-use Rattle.h263_bits.specs.Syntax.{Turn, again, finally, done, field, part, any, only, reading, Spells, IsProductive}
+use Rattle.h263_bits.specs.Syntax.{LoopTurn, again, finally, done, field, part, any, only, reading, Spells, IsProductive}
 use Rattle.h263_bits.specs.declared.fault.Fault.{Fault}
 use Rattle.h263_bits.specs.declared.fault.FaultKind.TheVariants as faults
 use Rattle.h263_bits.specs.Reading.{Bits}
@@ -15,7 +15,7 @@ use Rattle.back_messages.specs.Laws.{MessageLaws}
 use Rattle.h263_types.specs.declared.clock.Clock.{Clock}
 use Rattle.h263_types.specs.declared.clock.Clock.TheVariants.{Standard, Custom}
 use Rattle.h263_bits.proofs.SyntaxLaws.{field_some, element_some, part_some, either_productive}
-use Rattle.picture_header.specs.Text.{extra_turn, extra, has_room, bci, next_message, after_message, back_turn, back, in_places, opening, plus_type, multipoint, extended, channel, reference, header}
+use Rattle.picture_header.specs.Text.{extra_turn, extra, bci_room, bci, next_message, messages_after, back_turn, back, in_places, opening, plus_type, multipoint, extended, channel, reference, header}
 
 pub extra_some : (t u : Unit {0}) → Spells (extra_turn t) (again u) [] → ⊥
 unfolding extra_turn
@@ -26,10 +26,10 @@ unfolding extra_turn IsProductive
 extra_turn_productive t v = either_productive (v == 0) (done (finally tt)) (field 8 any (λ psupp. done (again tt))) end
     (λ w. end_again)
   where
-    end : IsProductive (done {A = Turn (Unit {0}) (Unit {0})} (finally tt))
+    end : IsProductive (done {A = LoopTurn (Unit {0}) (Unit {0})} (finally tt))
     end = tt
 
-    end_again : IsProductive (done {A = Turn (Unit {0}) (Unit {0})} (again tt))
+    end_again : IsProductive (done {A = LoopTurn (Unit {0}) (Unit {0})} (again tt))
     end_again = tt
 
 pub extra_productive : IsProductive extra
@@ -44,11 +44,11 @@ bci_some x h = field_some 0 any _ x h
 
 next_some : (clock : Clock) (used : ℕ) (x : Option Message) → Spells (next_message clock used) x [] → ⊥
 unfolding next_message
-next_some clock used x h = element_some bci (has_room used) _ x bci_some h
+next_some clock used x h = element_some bci (bci_room used) _ x bci_some h
 
 pub back_some : (clock : Clock) (t u : List Message) → Spells (back_turn clock t) (again u) [] → ⊥
 unfolding back_turn
-back_some clock t u h = part_some (next_message clock (length t)) any (λ next. done (after_message t next)) (again u)
+back_some clock t u h = part_some (next_message clock (length t)) any (λ next. done (messages_after t next)) (again u)
     (next_some clock (length t)) h
 
 pub back_more : (clock : Clock) (ms : List Message) (used : ℕ) (m : Message) (b c : Bits) → length ms ≡ used

@@ -15,12 +15,12 @@ use Rattle.back_messages.specs.declared.message.Message.{Message}
 use Rattle.h263_types.specs.declared.clock.Clock.{Clock}
 use Rattle.h263_types.specs.declared.clock.Clock.TheVariants.{Standard, Custom}
 use Rattle.h263_types.specs.Clocks.{period_of}
-use Rattle.back_messages.specs.Text.{IsMessage, message, message_text, bits_with, marks_of}
+use Rattle.back_messages.specs.Text.{IsMessage, message, message_text, bits_with, message_marks}
 use Rattle.back_messages.specs.Laws.{MessageLaws}
 use Rattle.picture_header.specs.declared.header.Header.{Header}
-use Rattle.picture_header.specs.Text.{opening, plus_type, multipoint, extended, channel, reference, bci, has_room, next_message, after_message, back_turn, back, in_places, extra, extra_turn, header, allowed_format, format_code, allowed_low, allowed_quant}
+use Rattle.picture_header.specs.Text.{opening, plus_type, multipoint, extended, channel, reference, bci, bci_room, next_message, messages_after, back_turn, back, in_places, extra, extra_turn, header, allowed_format, format_code, allowed_low, allowed_quant}
 use Rattle.picture_header.specs.Ranges.{IsReference, HasTenBits, AreMessages, IsBack, IsHeader, messages_in}
-use Rattle.picture_header.specs.Written.{opening_fields, plus_fields, multipoint_fields, extended_fields, channel_fields, reference_fields, reference_bits, clock_bits, back_bits, back_text, written_front, written_rest, written_header, written_bits}
+use Rattle.picture_header.specs.Written.{opening_fields, plus_fields, multipoint_fields, extended_fields, channel_fields, reference_fields, reference_bits, clock_bits, back_bits, bci_text, written_front, written_rest, written_header, written_bits}
 use Rattle.picture_header.specs.Laws.{IsShort}
 
 opening_spelt : (tr : ℕ) → Spells opening (tr % 256) (fields (opening_fields tr))
@@ -136,27 +136,27 @@ bci_more = spells_whole _ 1 _ _ (append-nil (spelled 1 1)) (spells_field 1 any _
 end_spelt : (clock : Clock) (used : ℕ) → Spells (next_message clock used) None (fields ((1, 0) ∷ (1, 1) ∷ []))
 unfolding next_message
 end_spelt clock used = spells_whole _ None _ _ (append-nil (fields ((1, 0) ∷ (1, 1) ∷ [])))
-    (spells_element bci (has_room used) _ None 0 _ [] bci_end refl (spells_done _))
+    (spells_element bci (bci_room used) _ None 0 _ [] bci_end refl (spells_done _))
 
 next_spelt : MessageLaws → (clock : Clock) (used : ℕ) (m : Message) → used < 4 → IsMessage clock m
     → Spells (next_message clock used) (Some m) (spelled 1 1 ++ (message_text m ++ []))
 unfolding next_message
 next_spelt laws clock used m room h =
-    spells_element bci (has_room used) _ (Some m) 1 (spelled 1 1) (message_text m ++ []) bci_more
+    spells_element bci (bci_room used) _ (Some m) 1 (spelled 1 1) (message_text m ++ []) bci_more
     (rw (lt-ltb used 4 room) refl) (spells_part (message clock) any _ (Some m) m (message_text m) []
     (laws.spelt clock m h) refl (spells_done _))
 
 turn_spelt : (clock : Clock) (messages : List Message) (next : Option Message) (bits : List Bool)
     → Spells (next_message clock (length messages)) next bits
-    → Spells (back_turn clock messages) (after_message messages next) bits
+    → Spells (back_turn clock messages) (messages_after messages next) bits
 unfolding back_turn
 turn_spelt clock messages next bits h = spells_whole _ _ _ _ (append-nil bits)
     (spells_part (next_message clock (length messages)) any _ _ next bits [] h refl (spells_done _))
 
 messages_spelt : MessageLaws → (clock : Clock) (before messages : List Message) → length before + length messages ≤ 4
-    → AreMessages clock messages → Spells (repeat before (back_turn clock)) (before ++ messages) (back_text messages)
+    → AreMessages clock messages → Spells (repeat before (back_turn clock)) (before ++ messages) (bci_text messages)
 messages_spelt laws clock before [] few each =
-    subst (λ (all : List Message). Spells (repeat before (back_turn clock)) all (back_text []))
+    subst (λ (all : List Message). Spells (repeat before (back_turn clock)) all (bci_text []))
     (sym (append-nil before)) (spells_last before (back_turn clock) before _
     (turn_spelt clock before None _ (end_spelt clock (length before))))
 messages_spelt laws clock before (m ∷ messages) few each =
@@ -165,14 +165,14 @@ messages_spelt laws clock before (m ∷ messages) few each =
     each.1 in
     let one = turn_spelt clock before (Some m) front (next_spelt laws clock (length before) m (omega arith) each.0) in
     let all : (before ++ m ∷ []) ++ messages ≡ before ++ m ∷ messages = append_assoc before (m ∷ []) messages in
-    let text : front ++ back_text messages ≡ back_text (m ∷ messages) =
-    append_assoc (spelled 1 1) (message_text m ++ []) (back_text messages)
-    ∙ ap (λ (t : List Bool). spelled 1 1 ++ (t ++ back_text messages)) (append-nil (message_text m)) in
+    let text : front ++ bci_text messages ≡ bci_text (m ∷ messages) =
+    append_assoc (spelled 1 1) (message_text m ++ []) (bci_text messages)
+    ∙ ap (λ (t : List Bool). spelled 1 1 ++ (t ++ bci_text messages)) (append-nil (message_text m)) in
     spells_whole _ _ _ _ text (subst (λ (list : List Message). Spells (repeat before (back_turn clock)) list (front
-    ++ back_text messages)) all (spells_turn before (before ++ m ∷ []) (back_turn clock) _ front _ one more))
+    ++ bci_text messages)) all (spells_turn before (before ++ m ∷ []) (back_turn clock) _ front _ one more))
 
 back_spelt : MessageLaws → (clock : Clock) (messages : List Message) → length messages ≤ 4 → AreMessages clock messages
-    → Spells (back clock) messages (back_text messages)
+    → Spells (back clock) messages (bci_text messages)
 unfolding back
 back_spelt laws clock messages few each = messages_spelt laws clock [] messages (omega arith) each
 
@@ -223,13 +223,13 @@ header_spelt laws h ok =
 
 -- ---- its length
 
-length-back_text : MessageLaws → (messages : List Message) → length (back_text messages) ≡ 2 + back_bits messages
+length-back_text : MessageLaws → (messages : List Message) → length (bci_text messages) ≡ 2 + back_bits messages
 length-back_text laws [] = length-fields ((1, 0) ∷ (1, 1) ∷ [])
 length-back_text laws (m ∷ messages) =
     omega (
       arith,
-      length-append (spelled 1 1) (message_text m ++ back_text messages),
-      length-append (message_text m) (back_text messages),
+      length-append (spelled 1 1) (message_text m ++ bci_text messages),
+      length-append (message_text m) (bci_text messages),
       length-spelled 1 1,
       laws.length m,
       length-back_text laws messages,
@@ -265,7 +265,7 @@ length-rest : MessageLaws → (h : Header) → length (written_rest h)
 length-rest laws h =
     let channel = fields (channel_fields h.channel) in
     let reference = fields (reference_fields h.trp) in
-    let back = back_text (messages_in h.back) in
+    let back = bci_text (messages_in h.back) in
     let quant = fields ((5, h.quant) ∷ []) in
     let end = fields ((1, 0) ∷ []) in
     omega (
@@ -306,7 +306,7 @@ with_short (Some marks) = omega arith
 
 pub back_short : (messages : List Message) → back_bits messages ≤ 41 * length messages
 back_short [] = omega arith
-back_short (m ∷ messages) = omega (arith, with_short (marks_of m), back_short messages)
+back_short (m ∷ messages) = omega (arith, with_short (message_marks m), back_short messages)
 
 pub header_short : (h : Header) → IsHeader h → written_bits h ≤ 251
 header_short h ok = omega (

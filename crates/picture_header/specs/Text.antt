@@ -12,7 +12,7 @@ use Rattle.h263_types.specs.Clocks.{period_of}
 use Rattle.h263_bits.specs.declared.fault.FaultKind.TheVariants as faults
 use Rattle.h263_bits.specs.declared.fault.Fault.{Fault}
 use Rattle.h263_bits.specs.Reading.{Bits, first_fault}
-use Rattle.h263_bits.specs.Syntax.{Syntax, either, Allowed, any, only, done, field, element, part, repeat, Turn, again, finally, Spells, reading}
+use Rattle.h263_bits.specs.Syntax.{Syntax, either, Allowed, any, only, done, field, element, part, repeat, LoopTurn, again, finally, Spells, reading}
 use Rattle.back_messages.specs.declared.message.Message.{Message}
 use Rattle.back_messages.specs.Text.{message}
 
@@ -36,8 +36,8 @@ allowed_format format n =
 abbrev pub allowed_kind : Allowed ℕ
 allowed_kind n = if nat_lt n 2 then None else Some faults.PictureKind
 
-abbrev pub kind_of : ℕ → Kind
-kind_of n = if n == 0 then kinds.I else kinds.P
+abbrev pub kind_numbered : ℕ → Kind
+kind_numbered n = if n == 0 then kinds.I else kinds.P
 
 -- the clock of a picture (OPPTYPE, bit 4)
 abbrev pub clock_of : ℕ → Clock
@@ -83,7 +83,7 @@ plus_type format =
     field 2 (only 0 faults.Resampling) λ resampling.
     field 1 any λ rounding.
     field 3 (only 1 faults.Marker) λ end.
-    done (clock_of custom, kind_of kind, rounding)
+    done (clock_of custom, kind_numbered kind, rounding)
 
 -- CPM (5.1.20)
 unfoldable pub multipoint : Syntax (Unit {0})
@@ -107,7 +107,7 @@ reference clock kinds.P =
     done (Some trp)
 
 -- PEI, and the byte after a 1, which is passed over (5.1.24, 5.1.25)
-unfoldable pub extra_turn : Unit {0} → Syntax (Turn (Unit {0}) (Unit {0}))
+unfoldable pub extra_turn : Unit {0} → Syntax (LoopTurn (Unit {0}) (Unit {0}))
 extra_turn u =
     field 1 any λ pei.
     either (pei == 0) (done (finally tt)) (field 8 any λ psupp. done (again tt))
@@ -118,8 +118,8 @@ extra = repeat tt extra_turn
 -- ---- messages
 
 -- at the fifth BCI 1 there are too many messages
-abbrev pub has_room : ℕ → Allowed ℕ
-has_room used more = if more == 0 then None else if nat_lt used 4 then None else Some faults.ManyMessages
+abbrev pub bci_room : ℕ → Allowed ℕ
+bci_room used more = if more == 0 then None else if nat_lt used 4 then None else Some faults.ManyMessages
 
 -- BCI: 1, or 01 for the end (5.1.16)
 unfoldable pub bci : Syntax ℕ
@@ -130,15 +130,15 @@ bci =
 -- BCI and a message, or BCI alone (5.1.17)
 unfoldable pub next_message : Clock → ℕ → Syntax (Option Message)
 next_message clock used =
-    element bci (has_room used) λ more.
+    element bci (bci_room used) λ more.
     either (more == 0) (done None) (part (message clock) any λ m. done (Some m))
 
-abbrev pub after_message : List Message → Option Message → Turn (List Message) (List Message)
-after_message messages None = finally messages
-after_message messages (Some m) = again (messages ++ m ∷ [])
+abbrev pub messages_after : List Message → Option Message → LoopTurn (List Message) (List Message)
+messages_after messages None = finally messages
+messages_after messages (Some m) = again (messages ++ m ∷ [])
 
-unfoldable pub back_turn : Clock → List Message → Syntax (Turn (List Message) (List Message))
-back_turn clock messages = part (next_message clock (length messages)) any λ next. done (after_message messages next)
+unfoldable pub back_turn : Clock → List Message → Syntax (LoopTurn (List Message) (List Message))
+back_turn clock messages = part (next_message clock (length messages)) any λ next. done (messages_after messages next)
 
 unfoldable pub back : Clock → Syntax (List Message)
 back clock = repeat [] (back_turn clock)

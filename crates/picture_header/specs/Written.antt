@@ -55,9 +55,9 @@ reference_fields None = (1, 0) ∷ []
 reference_fields (Some trp) = (1, 1) ∷ (10, trp) ∷ []
 
 -- BCI 1 and a message for each, and BCI 01
-abbrev pub back_text : List Message → List Bool
-back_text [] = fields ((1, 0) ∷ (1, 1) ∷ [])
-back_text (m ∷ messages) = spelled 1 1 ++ (message_text m ++ back_text messages)
+abbrev pub bci_text : List Message → List Bool
+bci_text [] = fields ((1, 0) ∷ (1, 1) ∷ [])
+bci_text (m ∷ messages) = spelled 1 1 ++ (message_text m ++ bci_text messages)
 
 -- what says which picture it is
 abbrev pub written_front : Header → List Bool
@@ -72,7 +72,7 @@ abbrev pub written_rest : Header → List Bool
 written_rest h =
     fields (channel_fields h.channel)
     ++ (fields (reference_fields h.trp)
-    ++ (back_text (messages_in h.back)
+    ++ (bci_text (messages_in h.back)
     ++ (fields ((5, h.quant) ∷ [])
     ++ fields ((1, 0) ∷ []))))
 

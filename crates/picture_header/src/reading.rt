@@ -6,7 +6,7 @@ ghost use Rattle.h263_types.specs.Blocks.{IsQuant};
 ghost use Rattle.h263_types.specs.Clocks.{period_of};
 ghost use Rattle.back_messages.specs.Text.{IsMessage};
 ghost use Rattle.back_messages.specs.declared.message.Message.{Message};
-ghost use Rattle.picture_header.specs.Text.{clock_of, kind_of, allowed_divisor, opening, plus_type, multipoint, extended, reference, extra, extra_turn, bci, next_message, back, channel, allowed_quant, header, header_fault, IsHeaderText};
+ghost use Rattle.picture_header.specs.Text.{clock_of, kind_numbered, allowed_divisor, opening, plus_type, multipoint, extended, reference, extra, extra_turn, bci, next_message, back, channel, allowed_quant, header, header_fault, IsHeaderText};
 ghost use Rattle.picture_header.specs.Back.{ReadsBack};
 ghost use Rattle.picture_header.specs.Ranges.{IsReference, IsBack, IsHeader};
 ghost use Rattle.picture_header.specs.declared.header.Header.{Header};
@@ -40,7 +40,7 @@ fn clock_from(custom: u32) -> Clock
 }
 
 fn kind_from(kind: u32) -> Kind
-    ensures { result ≡ kind_of kind }
+    ensures { result ≡ kind_numbered kind }
 {
     if kind == 0 { Kind::I } else { Kind::P }
 }

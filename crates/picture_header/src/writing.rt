@@ -8,7 +8,7 @@ ghost use Rattle.back_messages.specs.declared.message.Message.{Message};
 ghost use Rattle.back_messages.specs.Text.{IsMessage, message_text, message_bits};
 ghost use Rattle.picture_header.specs.Text.{format_code, IsHeaderText};
 ghost use Rattle.picture_header.specs.Ranges.{HasTenBits, AreMessages, IsHeader, messages_in};
-ghost use Rattle.picture_header.specs.Written.{kind_code, clock_code, opening_fields, optional_fields, mandatory_fields, plus_fields, multipoint_fields, extended_fields, channel_fields, reference_fields, back_text, written_front, written_rest, written_header, written_bits, clock_bits, reference_bits, back_bits};
+ghost use Rattle.picture_header.specs.Written.{kind_code, clock_code, opening_fields, optional_fields, mandatory_fields, plus_fields, multipoint_fields, extended_fields, channel_fields, reference_fields, bci_text, written_front, written_rest, written_header, written_bits, clock_bits, reference_bits, back_bits};
 
 use crate::header::Header;
 use back_messages::{Message, laws as back_messages_laws, message_bits, write_message};
@@ -162,7 +162,7 @@ fn write_back(writer: &mut BitWriter<'_>, places: &[Option<Message>; 4])
     requires each { AreMessages Custom (messages_in places.now) }
     requires room { len_of writer.old + (2 + back_bits (messages_in places.now))
         ≤ room_of writer.old }
-    ensures bits { Appends writer.old writer.new (back_text (messages_in places.now)) }
+    ensures bits { Appends writer.old writer.new (bci_text (messages_in places.now)) }
     ensures len { len_of writer.new ≡ len_of writer.old + (2 + back_bits (messages_in places.now)) }
 {
     'places: for place in places {

@@ -6,7 +6,7 @@ use Rattle.h263_types.specs.declared.Kind.{Kind}
 use Rattle.h263_types.specs.declared.Kind.TheVariants.{I, P}
 use Rattle.h263_types.specs.Sizes.{mbs_of}
 use Rattle.picture_pace.specs.declared.fit.FitPace.{FitPace}
-use Rattle.picture_pace.specs.Fitting.{after_coded, bytes_owed, bytes_spared, bytes_wanted, difficulty_of, fitting, fitting_quant, pace_at_start}
+use Rattle.picture_pace.specs.Fitting.{after_coded, bytes_to_save, bytes_spared, bytes_wanted, difficulty_of, fitting, fitting_quant, pace_at_start}
 use Rattle.picture_pace.specs.Laws.{IsNoSmaller, LargerIsCoarser, MoreIsFiner, Shot, after_shots}
 
 -- the first has at least as much to give, and owes no more
@@ -55,7 +55,7 @@ spares_less P p q h =
     (less_of (q.room / 2 - q.level) (q.target - q.excess) (p.room / 2 - p.level) (p.target - p.excess)
     (below_less p q h) (gap q.target p.target q.excess p.excess h.target h.excess))
 
-owes_less : (kind : Kind) (p q : FitPace) → IsFiner p q → bytes_owed kind p ≤ bytes_owed kind q
+owes_less : (kind : Kind) (p q : FitPace) → IsFiner p q → bytes_to_save kind p ≤ bytes_to_save kind q
 owes_less I p q h = half (p.level - p.room / 2) (q.level - q.room / 2) (above_less p q h)
 owes_less P p q h =
     half (max (p.level - p.room / 2) (p.excess - p.target)) (max (q.level - q.room / 2) (q.excess - q.target))
@@ -64,7 +64,7 @@ owes_less P p q h =
 
 wants_less : (kind : Kind) (p q : FitPace) → IsFiner p q → bytes_wanted kind q ≤ bytes_wanted kind p
 wants_less kind p q h =
-    join q.target p.target (bytes_spared kind q) (bytes_spared kind p) (bytes_owed kind q) (bytes_owed kind p)
+    join q.target p.target (bytes_spared kind q) (bytes_spared kind p) (bytes_to_save kind q) (bytes_to_save kind p)
     (q.target / 4) (p.target / 4) h.target (spares_less kind p q h) (owes_less kind p q h)
     (quarter q.target p.target h.target)
 

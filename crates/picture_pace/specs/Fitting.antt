@@ -35,13 +35,13 @@ bytes_spared I p = 2 * (p.room / 2 - p.level) / 3
 bytes_spared P p = min (p.room / 2 - p.level) (p.target - p.excess) / 2
 
 -- What it must save: half of what they are above.
-abbrev pub bytes_owed : Kind → FitPace → ℕ
-bytes_owed I p = (p.level - p.room / 2) / 2
-bytes_owed P p = max (p.level - p.room / 2) (p.excess - p.target) / 2
+abbrev pub bytes_to_save : Kind → FitPace → ℕ
+bytes_to_save I p = (p.level - p.room / 2) / 2
+bytes_to_save P p = max (p.level - p.room / 2) (p.excess - p.target) / 2
 
 -- the target with that, but a quarter of the target at least
 abbrev pub bytes_wanted : Kind → FitPace → ℕ
-bytes_wanted kind p = max (max (p.target + bytes_spared kind p - bytes_owed kind p) (p.target / 4)) 1
+bytes_wanted kind p = max (max (p.target + bytes_spared kind p - bytes_to_save kind p) (p.target / 4)) 1
 
 -- the finest from 2 to 30 with which fewer bytes than these are expected, or 31
 abbrev pub fitting : ℕ → ℕ → ℕ

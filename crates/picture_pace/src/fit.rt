@@ -1,6 +1,6 @@
 //! A pace that fits pictures to a target.
 ghost use Rattle.std.specs.Prelude.{◌≡◌, ◌≤◌};
-ghost use Rattle.picture_pace.specs.Fitting.{after_coded, bytes_owed, bytes_spared, bytes_wanted, difficulty_of};
+ghost use Rattle.picture_pace.specs.Fitting.{after_coded, bytes_to_save, bytes_spared, bytes_wanted, difficulty_of};
 ghost use Rattle.picture_pace.specs.Fitting.{fitting, fitting_quant, learnt, pace_at_start, poured_into, redirected};
 
 use h263_types::{Format, Kind};
@@ -110,7 +110,7 @@ impl FitPace {
 
     // What it must save.
     fn owed(&self, kind: Kind) -> u64
-        ensures { result ≡ bytes_owed kind self.now }
+        ensures { result ≡ bytes_to_save kind self.now }
     {
         let above = self.level.saturating_sub(self.room as u64 / 2);
         match kind {

@@ -17,7 +17,7 @@ use Rattle.h263_planes.specs.Picture.{Picture}
 use Rattle.h263_planes.specs.Samples.{Inside, sample_at}
 use Rattle.picture_recon.specs.Coded.{SetsBlocks}
 use Rattle.picture_recon.specs.Samples.{block_in}
-use Rattle.picture_recon.specs.Undrawn.{block_of_bytes, byte_in_block, byte_of, level_by_byte, undrawn_block, undrawn_mb}
+use Rattle.picture_recon.specs.Undrawn.{block_of_bytes, byte_in_block, byte_of_level, level_by_byte, undrawn_block, undrawn_mb}
 
 -- ---- lists by functions of the place
 
@@ -47,7 +47,7 @@ block_by_all b f long each = ap block (fill_by_all (λ k. level_by_byte k (f k))
 pub later_byte : (k n : ℕ) → 1 ≤ k → level_by_byte 1 n ≡ level_by_byte k n
 later_byte k n h = grind (arith, nat_tests)
 
-dc_again : (z : ℤ) → IsDc z → z ≡ level_by_byte 0 (byte_of z)
+dc_again : (z : ℤ) → IsDc z → z ≡ level_by_byte 0 (byte_of_level z)
 dc_again (pos n) h = refl
 dc_again (negsuc n) h = absurd (omega (arith, ints, h.low))
 
@@ -57,16 +57,16 @@ below_128 n h = grind (arith, nat_tests)
 from_128 : (n : ℕ) (z : ℤ) → 128 ≤ n → z ≡ pos n -ℤ pos 256 → z ≡ level_by_byte 1 n
 from_128 n z h e = grind (arith, nat_tests)
 
-level_again : (z : ℤ) → IsLevel z → z ≡ level_by_byte 1 (byte_of z)
+level_again : (z : ℤ) → IsLevel z → z ≡ level_by_byte 1 (byte_of_level z)
 level_again (pos n) h = below_128 n (omega (arith, ints, h.high))
 level_again (negsuc n) h =
     let small : n ≤ 126 = omega (arith, ints, h.low) in
     from_128 (255 - n) (negsuc n) (omega (arith, small)) (omega (arith, ints, small))
 
-again : (b : Block) (k : ℕ) → IsIntraBlock b → k < 64 → level_at b k ≡ level_by_byte k (byte_of (level_at b k))
+again : (b : Block) (k : ℕ) → IsIntraBlock b → k < 64 → level_at b k ≡ level_by_byte k (byte_of_level (level_at b k))
 again b zero is h = dc_again (level_at b 0) is.dc
 again b (suc k) is h = level_again (level_at b (suc k)) (is.levels (suc k) (omega arith) h)
-    ∙ later_byte (suc k) (byte_of (level_at b (suc k))) (omega arith)
+    ∙ later_byte (suc k) (byte_of_level (level_at b (suc k))) (omega arith)
 
 -- ---- where a block stands
 
@@ -227,8 +227,9 @@ kept : (m at bl now val old : ℕ) → now ≡ cond (nat_eq m at && nat_lt bl 6)
 kept m at bl now val old h e = grind (arith, nat_tests)
 
 module _ (f : Format) (at : ℕ) (blocks : List Block) (p q : Picture)
-    (sets : SetsBlocks f at 6 (λ (b old y x : ℕ). byte_of (level_at (block_in blocks b) (8 * y + x))) p q) where
-  put_byte : (b k : ℕ) → at < mbs_of f → b < 6 → k < 64 → byte_at f q at b k ≡ byte_of (level_at (block_in blocks b) k)
+    (sets : SetsBlocks f at 6 (λ (b old y x : ℕ). byte_of_level (level_at (block_in blocks b) (8 * y + x))) p q) where
+  put_byte : (b k : ℕ) → at < mbs_of f → b < 6 → k < 64
+      → byte_at f q at b k ≡ byte_of_level (level_at (block_in blocks b) k)
   put_byte b k h hb hk =
       let here = placed f at b k h hb hk in
       let corner = corner_of f at b in
@@ -236,8 +237,8 @@ module _ (f : Format) (at : ℕ) (blocks : List Block) (p q : Picture)
       let y = corner.y + k / 8 in
       written (mb_of f corner.plane x y) at (block_of corner.plane x y) _ _ _ (sets corner.plane x y here.inside)
       here.mb (omega (arith, here.block, hb))
-      ∙ ap (λ (n : ℕ). byte_of (level_at (block_in blocks n) (8 * (y % 8) + x % 8))) here.block
-      ∙ ap (λ (n : ℕ). byte_of (level_at (block_in blocks b) n)) here.place
+      ∙ ap (λ (n : ℕ). byte_of_level (level_at (block_in blocks n) (8 * (y % 8) + x % 8))) here.block
+      ∙ ap (λ (n : ℕ). byte_of_level (level_at (block_in blocks b) n)) here.place
 
   other_byte : (other b k : ℕ) → other < mbs_of f → other ≢ at → b < 6 → k < 64
       → byte_at f q other b k ≡ byte_at f p other b k

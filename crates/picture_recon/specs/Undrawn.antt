@@ -10,9 +10,9 @@ use Rattle.h263_planes.specs.Picture.{Picture}
 use Rattle.h263_planes.specs.Samples.{sample_at}
 
 -- the byte of a level, in two's complement
-abbrev pub byte_of : ℤ → ℕ
-byte_of (pos n) = n
-byte_of (negsuc n) = 255 - n
+abbrev pub byte_of_level : ℤ → ℕ
+byte_of_level (pos n) = n
+byte_of_level (negsuc n) = 255 - n
 
 -- the level at place k of the zigzag order by its byte: INTRADC is never below 0
 abbrev pub level_by_byte : ℕ → ℕ → ℤ

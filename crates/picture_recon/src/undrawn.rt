@@ -10,7 +10,7 @@ ghost use Rattle.h263_planes.specs.Samples.{IsPicture};
 ghost use Rattle.h263_planes.specs.Work.{loan_of, work};
 ghost use Rattle.picture_recon.specs.Coded.{SetsBlocks};
 ghost use Rattle.picture_recon.specs.Samples.{block_in, reconstruction};
-ghost use Rattle.picture_recon.specs.Undrawn.{block_of_bytes, byte_of, level_by_byte, undrawn_block, undrawn_mb, undrawn_mbs};
+ghost use Rattle.picture_recon.specs.Undrawn.{block_of_bytes, byte_of_level, level_by_byte, undrawn_block, undrawn_mb, undrawn_mbs};
 
 use crate::blocks::{put_block, samples_at};
 use crate::laws;
@@ -52,7 +52,7 @@ fn put_levels(blocks: &[Block; 6], at: u32, format: Format, out: &mut PictureMut
     ensures format { (work out.new).format ≡ format }
     ensures whole { IsPicture (work out.new) }
     ensures bytes { SetsBlocks format at 6
-        (λ b old y x. byte_of (level_at (block_in blocks.now b) (8 * y + x)))
+        (λ b old y x. byte_of_level (level_at (block_in blocks.now b) (8 * y + x)))
         (work out.old) (work out.new) }
 {
     for block in 0..6u32 {
@@ -64,7 +64,7 @@ fn put_levels(blocks: &[Block; 6], at: u32, format: Format, out: &mut PictureMut
 #[inline(always)]
 fn bytes_of(block: &Block) -> [u8; 64]
     requires { IsIntraBlock block.now }
-    ensures { (k : ℕ) → k < 64 → slice_index result k ≡ byte_of (level_at block.now k) }
+    ensures { (k : ℕ) → k < 64 → slice_index result k ≡ byte_of_level (level_at block.now k) }
 {
     let mut bytes = [0; 64];
     for k in 0..64 {
@@ -78,7 +78,7 @@ fn bytes_of(block: &Block) -> [u8; 64]
 fn byte(level: i16) -> u8
     requires low { neg_ℤ (pos 128) ≤ℤ level }
     requires high { level ≤ℤ pos 255 }
-    ensures { result ≡ byte_of level }
+    ensures { result ≡ byte_of_level level }
 {
     if level < 0 {
         (level + 256) as u8

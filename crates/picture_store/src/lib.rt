@@ -25,7 +25,7 @@
 ghost use Rattle.std.specs.Prelude.{◌≡◌, ◌≢◌, ◌+◌, ◌<◌, ◌≤◌, ◌↔◌, [], length, vec_len, IsSome, IfSome, IfOk};
 ghost use Rattle.std.specs.Vec.{vec_capacity};
 ghost use Rattle.h263_region.specs.Slots.{count_of, out_of};
-ghost use Rattle.picture_store.specs.Holding.{IsHeld};
+ghost use Rattle.h263_region.specs.Claimed.{IsHeld};
 ghost use Rattle.std.specs.Borrow.{sem};
 
 use h263_planes::PictureRef;
@@ -46,16 +46,16 @@ pub struct PictureStore {
 
 impl Model for PictureStore {
     ghost use Rattle.std.specs.Box.{boxed_slice_items};
-    ghost use Rattle.picture_store.specs.Pictures.{Pictures};
-    ghost use Rattle.picture_store.specs.Holding.{IsStore, pictures_of, room_of};
+    ghost use Rattle.picture_store.specs.Pictures.{StoredPictures};
+    ghost use Rattle.picture_store.specs.Holding.{IsStore, slot_pictures, region_room};
 
-    ghost Value = { Pictures };
+    ghost Value = { StoredPictures };
 
     ghost view = { λ s. record {
       format = s.format;
       numbers = boxed_slice_items s.numbers;
-      pictures = pictures_of s.format s.region (boxed_slice_items s.slots);
-      room = room_of s.region;
+      pictures = slot_pictures s.format s.region (boxed_slice_items s.slots);
+      room = region_room s.region;
     } };
 
     ghost invariant = { λ s. IsStore s.format (boxed_slice_items s.numbers) s.region (boxed_slice_items s.slots) };

@@ -4,7 +4,7 @@ use Rattle.std.specs.List.{AllByRecursion}
 use Rattle.std.proofs.lemmas.Bool.{cases_eq, eq-eqb, ne_eqb}
 use Rattle.std.proofs.Common.{eqb}
 use Rattle.playout_times.specs.declared.arrival.Arrival.{Arrival}
-use Rattle.playout_times.specs.Ways.{least}
+use Rattle.playout_times.specs.Ways.{least_number}
 
 -- ---- numbers
 
@@ -14,17 +14,18 @@ under n m h = omega arith
 first_of_both : (a b c d : ℕ) → d ≡ min b c → min a d ≡ min (min a b) c
 first_of_both a b c d e = omega arith
 
-pub least_small : (ns : List ℕ) → least ns ≤ 18446744073709551615
+pub least_small : (ns : List ℕ) → least_number ns ≤ 18446744073709551615
 least_small [] = omega arith
 least_small (n ∷ ns) =
     let h = least_small ns in
     omega arith
 
-pub least-append : (ms ns : List ℕ) → least (ms ++ ns) ≡ min (least ms) (least ns)
-least-append [] ns = under 18446744073709551615 (least ns) (least_small ns)
-least-append (m ∷ ms) ns = first_of_both m (least ms) (least ns) (least (ms ++ ns)) (least-append ms ns)
+pub least-append : (ms ns : List ℕ) → least_number (ms ++ ns) ≡ min (least_number ms) (least_number ns)
+least-append [] ns = under 18446744073709551615 (least_number ns) (least_small ns)
+least-append (m ∷ ms) ns = first_of_both m (least_number ms) (least_number ns) (least_number (ms ++ ns))
+    (least-append ms ns)
 
-pub least_le : (ns : List ℕ) (k : ℕ) → k < length ns → least ns ≤ get_or ns k 0
+pub least_le : (ns : List ℕ) (k : ℕ) → k < length ns → least_number ns ≤ get_or ns k 0
 least_le [] k h = omega arith
 least_le (n ∷ ns) zero h = omega arith
 least_le (n ∷ ns) (suc k) h =
@@ -33,11 +34,11 @@ least_le (n ∷ ns) (suc k) h =
     omega arith
 
 pub least_from : (m : ℕ) (ns : List ℕ) → m ≤ 18446744073709551615
-    → ((k : ℕ) → k < length ns → m ≤ get_or ns k 0) → m ≤ least ns
+    → ((k : ℕ) → k < length ns → m ≤ get_or ns k 0) → m ≤ least_number ns
 least_from m [] h f = h
 least_from m (n ∷ ns) h f =
     let first : m ≤ n = f 0 (omega arith) in
-    let rest : m ≤ least ns = least_from m ns h (λ k short. f (suc k) (omega arith)) in
+    let rest : m ≤ least_number ns = least_from m ns h (λ k short. f (suc k) (omega arith)) in
     omega (arith, first, rest)
 
 -- ---- what holds of all
@@ -87,12 +88,12 @@ same_test x y u v f g =
 -- ---- the least of what is chosen
 
 pub least_chosen : (f : Arrival → ℕ) (p : Arrival → Bool) (a : Arrival) (past : List Arrival)
-    → least (map f (filter p (a ∷ past))) ≡ cond (p a) (min (f a) (least (map f (filter p past))))
-    (least (map f (filter p past)))
+    → least_number (map f (filter p (a ∷ past))) ≡ cond (p a) (min (f a) (least_number (map f (filter p past))))
+    (least_number (map f (filter p past)))
 least_chosen f p a past = go (p a)
   where
-    go : (b : Bool) → least (map f (cond b (a ∷ filter p past) (filter p past)))
-        ≡ cond b (min (f a) (least (map f (filter p past)))) (least (map f (filter p past)))
+    go : (b : Bool) → least_number (map f (cond b (a ∷ filter p past) (filter p past)))
+        ≡ cond b (min (f a) (least_number (map f (filter p past)))) (least_number (map f (filter p past)))
     go true = refl
     go false = refl
 
@@ -107,11 +108,11 @@ fewer false false n l m h i = i
 
 pub more_chosen : (f : Arrival → ℕ) (p q : Arrival → Bool) → ((a : Arrival) → p a ≡ true → q a ≡ true)
     → (past : List Arrival)
-    → least (map f (filter q past)) ≤ least (map f (filter p past))
+    → least_number (map f (filter q past)) ≤ least_number (map f (filter p past))
 more_chosen f p q h [] = omega arith
 more_chosen f p q h (a ∷ past) =
     rw (least_chosen f q a past, least_chosen f p a past)
-    (fewer (p a) (q a) (f a) (least (map f (filter q past))) (least (map f (filter p past))) (h a)
+    (fewer (p a) (q a) (f a) (least_number (map f (filter q past))) (least_number (map f (filter p past))) (h a)
     (more_chosen f p q h past))
 
 -- what is at most each that is chosen
@@ -122,14 +123,15 @@ each_of true m n l h i =
 each_of false m n l h i = i
 
 pub chosen_from : (m : ℕ) (f : Arrival → ℕ) (p : Arrival → Bool) (past : List Arrival) → m ≤ 18446744073709551615
-    → AllByRecursion (λ a. p a ≡ true → m ≤ f a) past → m ≤ least (map f (filter p past))
+    → AllByRecursion (λ a. p a ≡ true → m ≤ f a) past → m ≤ least_number (map f (filter p past))
 chosen_from m f p [] h s = h
 chosen_from m f p (a ∷ past) h s =
     rw (least_chosen f p a past)
-    (each_of (p a) m (f a) (least (map f (filter p past))) s.0 (chosen_from m f p past h s.1))
+    (each_of (p a) m (f a) (least_number (map f (filter p past))) s.0 (chosen_from m f p past h s.1))
 
 pub least_map-append : (f : Arrival → ℕ) (xs ys : List Arrival)
-    → least (map f (xs ++ ys)) ≡ min (least (map f xs)) (least (map f ys))
-least_map-append f [] ys = under 18446744073709551615 (least (map f ys)) (least_small (map f ys))
+    → least_number (map f (xs ++ ys)) ≡ min (least_number (map f xs)) (least_number (map f ys))
+least_map-append f [] ys = under 18446744073709551615 (least_number (map f ys)) (least_small (map f ys))
 least_map-append f (x ∷ xs) ys =
-    first_of_both (f x) (least (map f xs)) (least (map f ys)) (least (map f (xs ++ ys))) (least_map-append f xs ys)
+    first_of_both (f x) (least_number (map f xs)) (least_number (map f ys)) (least_number (map f (xs ++ ys)))
+    (least_map-append f xs ys)

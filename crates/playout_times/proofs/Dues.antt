@@ -3,9 +3,9 @@ use Rattle.std.proofs.Common.{◌≡◌, ℕ, ◌+◌, ◌-◌, ◌<◌, ◌≤�
 use Rattle.std.proofs.lemmas.Bool.{cases_Bool, le-leb, false≢true}
 use Rattle.playout_times.specs.declared.arrival.Arrival.{Arrival}
 use Rattle.playout_times.specs.declared.times.Times.{Times}
-use Rattle.playout_times.specs.Ways.{latest, least, least_way, quarter_of, recent, way, ways}
+use Rattle.playout_times.specs.Ways.{latest, least_number, least_way, quarter_of, recent, transit, ways}
 use Rattle.playout_times.specs.Due.{captured_from, due_at, due_of, has_come}
-use Rattle.playout_times.specs.Kept.{IsTimed, Stands}
+use Rattle.playout_times.specs.Kept.{IsTimed, TimesStand}
 use Rattle.playout_times.proofs.Choosing.{all_by, chosen, least_map-append}
 use Rattle.playout_times.proofs.Earliest.{come, earliest, not_come}
 use Rattle.playout_times.proofs.Following.{least_latest}
@@ -20,30 +20,33 @@ none = 18446744073709551615
 -- ---- the least way
 
 pub two_parts : (a : Arrival) (past : List Arrival)
-    → least_way (a ∷ past) ≡ min (least (ways (recent a.at (a ∷ past)))) (least (ways (latest (a ∷ past))))
+    → least_way (a ∷ past) ≡ min (least_number (ways (recent a.at (a ∷ past))))
+    (least_number (ways (latest (a ∷ past))))
 unfolding least_way
-two_parts a past = least_map-append way (recent a.at (a ∷ past)) (latest (a ∷ past))
+two_parts a past = least_map-append transit (recent a.at (a ∷ past)) (latest (a ∷ past))
 
-pub least_kept : (t : Times) (a : Arrival) (past : List Arrival) → Stands t (a ∷ past)
+pub least_kept : (t : Times) (a : Arrival) (past : List Arrival) → TimesStand t (a ∷ past)
     → min (min t.recent.this (min t.recent.before t.recent.earlier))
     (min t.runs.last (min t.runs.before t.runs.earlier))
     ≡ least_way (a ∷ past)
 least_kept t a past s =
     ap (λ (n : ℕ). min n (min t.runs.last (min t.runs.before t.runs.earlier)))
     (least_recent t.recent (quarter_of t.last) (a ∷ past) s.recent
-    ∙ ap (λ (n : ℕ). least (ways (filter (λ b. leb (quarter_of n) (quarter_of b.at + 2)) (a ∷ past)))) (sym s.newest))
-    ∙ ap (λ (n : ℕ). min (least (ways (recent a.at (a ∷ past)))) n) (least_latest t.runs (a ∷ past) s.runs)
+    ∙ ap (λ (n : ℕ). least_number (ways (filter (λ b. leb (quarter_of n) (quarter_of b.at + 2)) (a ∷ past))))
+    (sym s.newest))
+    ∙ ap (λ (n : ℕ). min (least_number (ways (recent a.at (a ∷ past)))) n) (least_latest t.runs (a ∷ past) s.runs)
     ∙ sym (two_parts a past)
 
 -- it is at most the newest packet's
-pub at_most_newest : (a : Arrival) (past : List Arrival) → least_way (a ∷ past) ≤ way a
+pub at_most_newest : (a : Arrival) (past : List Arrival) → least_way (a ∷ past) ≤ transit a
 at_most_newest a past =
     let e = two_parts a past in
-    let f = ap (λ (l : List Arrival). least (ways l))
+    let f = ap (λ (l : List Arrival). least_number (ways l))
     (chosen (λ b. leb (quarter_of a.at) (quarter_of b.at + 2)) a past
     (le-leb (quarter_of a.at) (quarter_of a.at + 2) (omega arith))) in
-    smaller (least_way (a ∷ past)) (least (ways (recent a.at (a ∷ past)))) (least (ways (latest (a ∷ past))))
-    (way a) (least (ways (recent a.at past))) e f
+    smaller (least_way (a ∷ past)) (least_number (ways (recent a.at (a ∷ past))))
+    (least_number (ways (latest (a ∷ past))))
+    (transit a) (least_number (ways (recent a.at past))) e f
   where
     smaller : (l r s w x : ℕ) → l ≡ min r s → r ≡ min w x → l ≤ w
     smaller l r s w x e f = omega arith
@@ -63,13 +66,13 @@ if_come b n e = ap (λ (c : Bool). cond c (Some n) None) e
 if_not : (b : Bool) (n : ℕ) → b ≡ false → cond b (Some n) None ≡ (let n : Option ℕ = None in n)
 if_not b n e = ap (λ (c : Bool). cond c (Some n) None) e
 
-captures_small : (t : Times) (past : List Arrival) → Stands t past → has_come t.next past ≡ true
+captures_small : (t : Times) (past : List Arrival) → TimesStand t past → has_come t.next past ≡ true
     → captured_from t.next past < origin
 captures_small t past s e =
     come t.next origin past e (all_by IsTimed (λ a. a.captured < origin) (λ a h. h.captured) past s.timed)
 
 -- no time is kept: nothing came
-pub not_due : (t : Times) (past : List Arrival) → Stands t past → least t.captured ≡ none
+pub not_due : (t : Times) (past : List Arrival) → TimesStand t past → least_number t.captured ≡ none
     → due_of t.wait t.next past ≡ None
 not_due t past s e =
     let f = earliest t.captured t.next past s.captured in
@@ -82,7 +85,7 @@ not_due t past s e =
     too_small : (n : ℕ) → n < origin → n ≡ none → ⊥
     too_small n h e = omega arith
 
-pub is_known : (t : Times) (past : List Arrival) → Stands t past → (least t.captured ≡ none → ⊥)
+pub is_known : (t : Times) (past : List Arrival) → TimesStand t past → (least_number t.captured ≡ none → ⊥)
     → has_come t.next past ≡ true
 is_known t past s n =
     elim (cases_Bool (has_come t.next past)) [
@@ -90,7 +93,7 @@ is_known t past s n =
       | inr h ↦ absurd (n (earliest t.captured t.next past s.captured ∙ not_come t.next past h))
     ]
 
-pub due : (t : Times) (captured : ℕ) (past : List Arrival) → Stands t past → captured ≡ least t.captured
+pub due : (t : Times) (captured : ℕ) (past : List Arrival) → TimesStand t past → captured ≡ least_number t.captured
     → (captured ≡ none → ⊥)
     → Some (min
     (min (captured + min (min t.recent.this (min t.recent.before t.recent.earlier))

@@ -5,7 +5,7 @@ use Rattle.std.proofs.lemmas.Bool.{cases_eq, eq-eqb, ne_eqb, eqb-true, le-leb, l
 use Rattle.std.proofs.lemmas.List.{get_or-set_other, get_or-set_same}
 use Rattle.std.proofs.Math.ListN.{length-set}
 use Rattle.playout_times.specs.declared.arrival.Arrival.{Arrival}
-use Rattle.playout_times.specs.Ways.{least}
+use Rattle.playout_times.specs.Ways.{least_number}
 use Rattle.playout_times.specs.Due.{captured_from, has_come}
 use Rattle.playout_times.specs.Kept.{CapturesStand, captured_of}
 use Rattle.playout_times.proofs.Choosing.{all_by, all_by_both, chosen, chosen_from, least_chosen, least_from, least_le, least_small, more_chosen, none_chosen, passed}
@@ -20,12 +20,12 @@ time a = a.captured
 
 more_of : (n : ℕ) (a : Arrival) (past : List Arrival) → a.picture ≡ n
     → captured_of n (a ∷ past) ≡ min a.captured (captured_of n past)
-more_of n a past e = ap (λ (l : List Arrival). least (map time l))
+more_of n a past e = ap (λ (l : List Arrival). least_number (map time l))
     (chosen (λ b. eqb b.picture n) a past (eq-eqb a.picture n e))
 
 same_of : (n : ℕ) (a : Arrival) (past : List Arrival) → (a.picture ≡ n → ⊥)
     → captured_of n (a ∷ past) ≡ captured_of n past
-same_of n a past e = ap (λ (l : List Arrival). least (map time l))
+same_of n a past e = ap (λ (l : List Arrival). least_number (map time l))
     (passed (λ b. eqb b.picture n) a past (ne_eqb a.picture n e))
 
 flipped : (m x y c d : ℕ) → m ≡ min x c → x ≡ y → d ≡ min c y → m ≡ d
@@ -69,7 +69,7 @@ pub gone_on : (old new : List ℕ) (next : ℕ) (past : List Arrival) → length
 gone_on old new next past l f g s =
     let long = s.long in
     let last : captured_of (next + 64) past ≡ none =
-    ap (λ (xs : List Arrival). least (map time xs))
+    ap (λ (xs : List Arrival). least_number (map time xs))
     (none_chosen (λ a. eqb a.picture (next + 64)) past
     (all_by (λ a. a.picture < next + 64) (λ a. eqb a.picture (next + 64) ≡ false)
     (λ a h. ne_eqb a.picture (next + 64) (λ e. omega arith)) past s.near)) in
@@ -107,22 +107,22 @@ each_said (b ∷ past) =
     )
 
 pub earliest : (captured : List ℕ) (next : ℕ) (past : List Arrival) → CapturesStand captured next past
-    → least captured ≡ captured_from next past
+    → least_number captured ≡ captured_from next past
 unfolding captured_from
 earliest captured next past s =
     let long = s.long in
-    let above : least (map time (filter (λ a. leb next a.picture) past)) ≤ least captured =
-    least_from (least (map time (filter (λ a. leb next a.picture) past))) captured
+    let above : least_number (map time (filter (λ a. leb next a.picture) past)) ≤ least_number captured =
+    least_from (least_number (map time (filter (λ a. leb next a.picture) past))) captured
     (least_small (map time (filter (λ a. leb next a.picture) past)))
     (λ k h.
     let e = s.each k (omega arith) in
     let m = more_chosen time (λ a. eqb a.picture (next + k)) (λ a. leb next a.picture)
     (λ a t. let i = eqb-true a.picture (next + k) t in le-leb next a.picture (omega arith)) past in
     omega arith) in
-    let below : least captured ≤ least (map time (filter (λ a. leb next a.picture) past)) =
-    chosen_from (least captured) time (λ a. leb next a.picture) past (least_small captured)
+    let below : least_number captured ≤ least_number (map time (filter (λ a. leb next a.picture) past)) =
+    chosen_from (least_number captured) time (λ a. leb next a.picture) past (least_small captured)
     (all_by_both (λ a. a.picture < next + 64) (λ a. captured_of a.picture past ≤ a.captured)
-    (λ a. leb next a.picture ≡ true → least captured ≤ a.captured)
+    (λ a. leb next a.picture ≡ true → least_number captured ≤ a.captured)
     (λ a near said t.
     let i = leb-true next a.picture t in
     let k : a.picture - next < 64 = omega arith in
@@ -146,7 +146,8 @@ nothing next (a ∷ past) e =
 pub not_come : (next : ℕ) (past : List Arrival) → has_come next past ≡ false → captured_from next past ≡ none
 unfolding captured_from
 not_come next past e =
-    ap (λ (xs : List Arrival). least (map time xs)) (none_chosen (λ a. leb next a.picture) past (nothing next past e))
+    ap (λ (xs : List Arrival). least_number (map time xs)) (none_chosen (λ a. leb next a.picture) past
+    (nothing next past e))
 
 came_one : (b c : Bool) (n l z : ℕ) → (b || c) ≡ true → n < z → (c ≡ true → l < z) → cond b (min n l) l < z
 came_one true c n l z e h f = omega arith
@@ -159,5 +160,5 @@ come next z [] e h = absurd (false≢true e)
 come next z (a ∷ past) e h =
     rw (least_chosen time (λ b. leb next b.picture) a past)
     (came_one (leb next a.picture) (has_come next past) a.captured
-    (least (map time (filter (λ b. leb next b.picture) past))) z e h.0
+    (least_number (map time (filter (λ b. leb next b.picture) past))) z e h.0
     (λ f. come next z past f h.1))

@@ -4,7 +4,7 @@ use Rattle.std.specs.List.{AllByRecursion}
 use Rattle.std.proofs.lemmas.Bool.{cases_eq, eq-eqb, ne_eqb, le-leb, lt-leb, or_left, or_right}
 use Rattle.playout_times.specs.declared.arrival.Arrival.{Arrival}
 use Rattle.playout_times.specs.declared.recent.Recent.{Recent}
-use Rattle.playout_times.specs.Ways.{least, way, ways, quarter_of}
+use Rattle.playout_times.specs.Ways.{least_number, transit, ways, quarter_of}
 use Rattle.playout_times.specs.Kept.{RecentStands, is_before, least_before}
 use Rattle.playout_times.proofs.Choosing.{all_by, chosen, everywhere, least_chosen, none_chosen, passed, same_choice, same_test}
 
@@ -22,7 +22,7 @@ nothing_stands q = record { this = refl; before = refl; earlier = refl; order = 
 -- what came k quarters before one came k + d before the one that is d later
 shifted : (k d q : ℕ) (past : List Arrival) → least_before (k + d) (q + d) past ≡ least_before k q past
 shifted k d q past =
-    ap (λ (l : List Arrival). least (ways l))
+    ap (λ (l : List Arrival). least_number (ways l))
     (same_choice (is_before (k + d) (q + d)) (is_before k q) past
     (everywhere (λ a. is_before (k + d) (q + d) a ≡ is_before k q a)
     (λ a. same_test (quarter_of a.at + (k + d)) (q + d) (quarter_of a.at + k) q (λ e. omega arith)
@@ -31,7 +31,7 @@ shifted k d q past =
 -- nothing came since
 since : (k d q : ℕ) (past : List Arrival) → k < d → Order q past → least_before k (q + d) past ≡ none
 since k d q past h o =
-    ap (λ (l : List Arrival). least (ways l))
+    ap (λ (l : List Arrival). least_number (ways l))
     (none_chosen (is_before k (q + d)) past
     (all_by (λ a. quarter_of a.at ≤ q) (λ a. is_before k (q + d) a ≡ false)
     (λ a i. ne_eqb (quarter_of a.at + k) (q + d) (λ e. omega arith)) past o))
@@ -86,17 +86,19 @@ swapped : (m l t w n : ℕ) → m ≡ min l t → w ≡ t → l ≡ n → m ≡ 
 swapped m l t w n e f g = omega arith
 
 pub added : (r : Recent) (m t q : ℕ) (a : Arrival) (past : List Arrival) → m ≡ min r.this t → RecentStands r q past
-    → way a ≡ t → quarter_of a.at ≡ q → RecentStands (record r { this = m }) q (a ∷ past)
+    → transit a ≡ t → quarter_of a.at ≡ q → RecentStands (record r { this = m }) q (a ∷ past)
 added r m t q a past e s w i =
     let other : (k : ℕ) → 0 < k → is_before k q a ≡ false = λ k h. ne_eqb (quarter_of a.at + k) q (λ j. omega arith) in
     record {
-      this = swapped m r.this t (way a) (least_before 0 q past) e w s.this
-          ∙ sym (ap (λ (l : List Arrival). least (ways l))
+      this = swapped m r.this t (transit a) (least_before 0 q past) e w s.this
+          ∙ sym (ap (λ (l : List Arrival). least_number (ways l))
           (chosen (is_before 0 q) a past (eq-eqb (quarter_of a.at + 0) q (omega arith))));
       before = s.before
-          ∙ sym (ap (λ (l : List Arrival). least (ways l)) (passed (is_before 1 q) a past (other 1 (omega arith))));
+          ∙ sym (ap (λ (l : List Arrival). least_number (ways l))
+          (passed (is_before 1 q) a past (other 1 (omega arith))));
       earlier = s.earlier
-          ∙ sym (ap (λ (l : List Arrival). least (ways l)) (passed (is_before 2 q) a past (other 2 (omega arith))));
+          ∙ sym (ap (λ (l : List Arrival). least_number (ways l))
+          (passed (is_before 2 q) a past (other 2 (omega arith))));
       order = (omega (arith, i), s.order);
     }
 
@@ -142,28 +144,28 @@ abbrev within : ℕ → Arrival → Bool
 within q a = leb q (quarter_of a.at + 2)
 
 all_three : (q : ℕ) (past : List Arrival) → Order q past
-    → min (least_before 0 q past) (min (least_before 1 q past) (least_before 2 q past)) ≡ least
+    → min (least_before 0 q past) (min (least_before 1 q past) (least_before 2 q past)) ≡ least_number
     (ways (filter (within q) past))
 all_three q [] o = omega arith
 all_three q (a ∷ past) o =
     ap (λ (n : ℕ). min n (min (least_before 1 q (a ∷ past)) (least_before 2 q (a ∷ past))))
-    (least_chosen way (is_before 0 q) a past)
-    ∙ ap (λ (n : ℕ). min (cond (is_before 0 q a) (min (way a) (least_before 0 q past)) (least_before 0 q past))
+    (least_chosen transit (is_before 0 q) a past)
+    ∙ ap (λ (n : ℕ). min (cond (is_before 0 q a) (min (transit a) (least_before 0 q past)) (least_before 0 q past))
     (min n (least_before 2 q (a ∷ past))))
-    (least_chosen way (is_before 1 q) a past)
-    ∙ ap (λ (n : ℕ). min (cond (is_before 0 q a) (min (way a) (least_before 0 q past)) (least_before 0 q past))
-    (min (cond (is_before 1 q a) (min (way a) (least_before 1 q past)) (least_before 1 q past)) n))
-    (least_chosen way (is_before 2 q) a past)
-    ∙ joined (is_before 0 q a) (is_before 1 q a) (is_before 2 q a) (way a) (least_before 0 q past)
+    (least_chosen transit (is_before 1 q) a past)
+    ∙ ap (λ (n : ℕ). min (cond (is_before 0 q a) (min (transit a) (least_before 0 q past)) (least_before 0 q past))
+    (min (cond (is_before 1 q a) (min (transit a) (least_before 1 q past)) (least_before 1 q past)) n))
+    (least_chosen transit (is_before 2 q) a past)
+    ∙ joined (is_before 0 q a) (is_before 1 q a) (is_before 2 q a) (transit a) (least_before 0 q past)
     (least_before 1 q past)
-    (least_before 2 q past) (least (ways (filter (within q) past))) (all_three q past o.1)
-    ∙ ap (λ (b : Bool). cond b (min (way a) (least (ways (filter (within q) past))))
-    (least (ways (filter (within q) past))))
+    (least_before 2 q past) (least_number (ways (filter (within q) past))) (all_three q past o.1)
+    ∙ ap (λ (b : Bool). cond b (min (transit a) (least_number (ways (filter (within q) past))))
+    (least_number (ways (filter (within q) past))))
     (sym (one_of_three (quarter_of a.at) q o.0))
-    ∙ sym (least_chosen way (within q) a past)
+    ∙ sym (least_chosen transit (within q) a past)
 
 pub least_recent : (r : Recent) (q : ℕ) (past : List Arrival) → RecentStands r q past
-    → min r.this (min r.before r.earlier) ≡ least (ways (filter (λ a. leb q (quarter_of a.at + 2)) past))
+    → min r.this (min r.before r.earlier) ≡ least_number (ways (filter (λ a. leb q (quarter_of a.at + 2)) past))
 least_recent r q past s =
     let e0 = s.this in
     let e1 = s.before in

@@ -4,7 +4,7 @@ use Rattle.std.specs.Prelude.{IfSome, Some, None}
 use Rattle.std.specs.List.{AllByRecursion}
 use Rattle.std.proofs.lemmas.Bool.{leb-true}
 use Rattle.playout_times.specs.declared.arrival.Arrival.{Arrival}
-use Rattle.playout_times.specs.Ways.{counted, latest, least, least_way, onto, quarter_of, recent, runs, way, ways}
+use Rattle.playout_times.specs.Ways.{counted, latest, least_number, least_way, onto, quarter_of, recent, runs, transit, ways}
 use Rattle.playout_times.specs.Due.{captured_from, due_at, due_of, has_come}
 use Rattle.playout_times.specs.Kept.{IsTimed, least_of_run}
 use Rattle.playout_times.specs.Laws.{Hides}
@@ -14,12 +14,15 @@ use Rattle.playout_times.proofs.Following.{all_of, all_three}
 
 -- ---- the least
 
-least_each : (past : List Arrival) → AllByRecursion (λ a. least (ways past) ≤ way a) past
-least_each past = go past (least (ways past)) (omega arith)
+least_each : (past : List Arrival) → AllByRecursion (λ a. least_number (ways past) ≤ transit a) past
+least_each past = go past (least_number (ways past)) (omega arith)
   where
-    go : (rest : List Arrival) (n : ℕ) → n ≤ least (ways rest) → AllByRecursion (λ a. n ≤ way a) rest
+    go : (rest : List Arrival) (n : ℕ) → n ≤ least_number (ways rest) → AllByRecursion (λ a. n ≤ transit a) rest
     go [] n h = tt
-    go (a ∷ rest) n h = (left n (way a) (least (ways rest)) h, go rest n (right n (way a) (least (ways rest)) h))
+    go (a ∷ rest) n h = (
+      left n (transit a) (least_number (ways rest)) h,
+      go rest n (right n (transit a) (least_number (ways rest)) h),
+    )
       where
         left : (n a l : ℕ) → n ≤ min a l → n ≤ a
         left n a l h = omega arith
@@ -27,7 +30,7 @@ least_each past = go past (least (ways past)) (omega arith)
         right : (n a l : ℕ) → n ≤ min a l → n ≤ l
         right n a l h = omega arith
 
-pub least_is_least : (past : List Arrival) → AllByRecursion (λ a. least_way past ≤ way a) (counted past)
+pub least_is_least : (past : List Arrival) → AllByRecursion (λ a. least_way past ≤ transit a) (counted past)
 unfolding least_way
 least_is_least past = least_each (counted past)
 
@@ -50,17 +53,17 @@ runs_all : (P : Arrival → Type 0) (past : List Arrival) → AllByRecursion P p
 runs_all P [] s = tt
 runs_all P (a ∷ past) s = onto_all P a (runs past) s.0 (runs_all P past s.1)
 
-least_from_each : (n : ℕ) (run : List Arrival) → n ≤ 18446744073709551615 → AllByRecursion (λ a. n ≤ way a) run
-    → n ≤ least (ways run)
+least_from_each : (n : ℕ) (run : List Arrival) → n ≤ 18446744073709551615 → AllByRecursion (λ a. n ≤ transit a) run
+    → n ≤ least_number (ways run)
 least_from_each n [] h s = h
-least_from_each n (a ∷ run) h s = both n (way a) (least (ways run)) s.0 (least_from_each n run h s.1)
+least_from_each n (a ∷ run) h s = both n (transit a) (least_number (ways run)) s.0 (least_from_each n run h s.1)
   where
     both : (n a l : ℕ) → n ≤ a → n ≤ l → n ≤ min a l
     both n a l h i = omega arith
 
 -- the first runs are those of the later ones
 run_from : (n k : ℕ) (rs ss : List (List Arrival)) → n ≤ 18446744073709551615 → k < length rs
-    → AllRuns (λ a. n ≤ way a) rs
+    → AllRuns (λ a. n ≤ transit a) rs
     → n ≤ least_of_run k (rs ++ ss)
 run_from n k [] ss h i s =
     let no : ⊥ = omega arith in
@@ -72,11 +75,11 @@ three_from : (n x y z l : ℕ) → min x (min y z) ≡ l → n ≤ x → n ≤ y
 three_from n x y z l e h i j = omega arith
 
 latest_from : (n : ℕ) (rs ss all : List (List Arrival)) → all ≡ rs ++ ss → n ≤ 18446744073709551615 → 3 ≤ length rs
-    → AllRuns (λ a. n ≤ way a) rs → n ≤ least (ways (all_of (take 3 all)))
+    → AllRuns (λ a. n ≤ transit a) rs → n ≤ least_number (ways (all_of (take 3 all)))
 latest_from n rs ss all e h i s =
-    subst (λ (l : List (List Arrival)). n ≤ least (ways (all_of (take 3 l)))) (sym e)
+    subst (λ (l : List (List Arrival)). n ≤ least_number (ways (all_of (take 3 l)))) (sym e)
     (three_from n (least_of_run 0 (rs ++ ss)) (least_of_run 1 (rs ++ ss)) (least_of_run 2 (rs ++ ss))
-    (least (ways (all_of (take 3 (rs ++ ss))))) (all_three (rs ++ ss))
+    (least_number (ways (all_of (take 3 (rs ++ ss))))) (all_three (rs ++ ss))
     (run_from n 0 rs ss h (omega arith) s) (run_from n 1 rs ss h (omega arith) s)
     (run_from n 2 rs ss h (omega arith) s))
 
@@ -88,15 +91,16 @@ all_append P [] ys h i = i
 all_append P (x ∷ xs) ys h i = (h.0, all_append P xs ys h.1 i)
 
 recent_from : (n now : ℕ) (later before : List Arrival) → n ≤ 18446744073709551615
-    → AllByRecursion (λ a. n ≤ way a) later
+    → AllByRecursion (λ a. n ≤ transit a) later
     → AllByRecursion (λ b. quarter_of b.at + 2 < quarter_of now) before
-    → n ≤ least (ways (recent now (later ++ before)))
+    → n ≤ least_number (ways (recent now (later ++ before)))
 recent_from n now later before h s o =
-    chosen_from n way (λ a. leb (quarter_of now) (quarter_of a.at + 2)) (later ++ before) h
-    (all_append (λ a. leb (quarter_of now) (quarter_of a.at + 2) ≡ true → n ≤ way a) later before
-    (all_by (λ a. n ≤ way a) (λ a. leb (quarter_of now) (quarter_of a.at + 2) ≡ true → n ≤ way a) (λ a i t. i) later s)
+    chosen_from n transit (λ a. leb (quarter_of now) (quarter_of a.at + 2)) (later ++ before) h
+    (all_append (λ a. leb (quarter_of now) (quarter_of a.at + 2) ≡ true → n ≤ transit a) later before
+    (all_by (λ a. n ≤ transit a) (λ a. leb (quarter_of now) (quarter_of a.at + 2) ≡ true
+    → n ≤ transit a) (λ a i t. i) later s)
     (all_by (λ b. quarter_of b.at + 2 < quarter_of now)
-    (λ a. leb (quarter_of now) (quarter_of a.at + 2) ≡ true → n ≤ way a)
+    (λ a. leb (quarter_of now) (quarter_of a.at + 2) ≡ true → n ≤ transit a)
     (λ a i t.
     let j = leb-true (quarter_of now) (quarter_of a.at + 2) t in
     let no : ⊥ = omega arith in
@@ -111,22 +115,22 @@ split : (n l r s : ℕ) → l ≡ min r s → n ≤ r → n ≤ s → n ≤ l
 split n l r s e h i = omega arith
 
 pub shortest_from : (n : ℕ) (later before : List Arrival) → Hides later before → AllByRecursion IsTimed later
-    → AllByRecursion (λ a. n ≤ way a) later → n ≤ least_way (later ++ before)
+    → AllByRecursion (λ a. n ≤ transit a) later → n ≤ least_way (later ++ before)
 shortest_from n [] before h t s =
     let three = h.three in
     let no : ⊥ = omega arith in
     absurd no
 shortest_from n (a ∷ later) before h t s =
     let fits = small n a.captured a.at t.0.captured t.0.at s.0 in
-    split n (least_way (a ∷ later ++ before)) (least (ways (recent a.at (a ∷ later ++ before))))
-    (least (ways (latest (a ∷ later ++ before))))
+    split n (least_way (a ∷ later ++ before)) (least_number (ways (recent a.at (a ∷ later ++ before))))
+    (least_number (ways (latest (a ∷ later ++ before))))
     (two_parts a (later ++ before))
     (recent_from n a.at (a ∷ later) before fits s h.old)
     (latest_from n (runs (a ∷ later)) (runs before) (runs (a ∷ later ++ before)) h.apart fits h.three
-    (runs_all (λ b. n ≤ way b) (a ∷ later) s))
+    (runs_all (λ b. n ≤ transit b) (a ∷ later) s))
 
 pub recovers : (shortest longest : ℕ) (later before : List Arrival) → Hides later before → AllByRecursion IsTimed later
-    → AllByRecursion (λ a. (shortest ≤ way a) × (way a ≤ longest)) later
+    → AllByRecursion (λ a. (shortest ≤ transit a) × (transit a ≤ longest)) later
     → (shortest ≤ least_way (later ++ before)) × (least_way (later ++ before) ≤ longest)
 recovers n m [] before h t s =
     let three = h.three in
@@ -134,8 +138,8 @@ recovers n m [] before h t s =
     absurd no
 recovers n m (a ∷ later) before h t s = (
   shortest_from n (a ∷ later) before h t
-      (all_by (λ b. (n ≤ way b) × (way b ≤ m)) (λ b. n ≤ way b) (λ b i. i.0) (a ∷ later) s),
-  through (least_way (a ∷ later ++ before)) (way a) m (at_most_newest a (later ++ before)) s.0.1,
+      (all_by (λ b. (n ≤ transit b) × (transit b ≤ m)) (λ b. n ≤ transit b) (λ b i. i.0) (a ∷ later) s),
+  through (least_way (a ∷ later ++ before)) (transit a) m (at_most_newest a (later ++ before)) s.0.1,
 )
   where
     through : (x y z : ℕ) → x ≤ y → y ≤ z → x ≤ z
@@ -161,9 +165,9 @@ earliest_from n picture past h s =
 
 pub in_time : (wait shortest : ℕ) (packet : Arrival) (later before : List Arrival) → Hides later before
     → AllByRecursion IsTimed later
-    → AllByRecursion (λ a. shortest ≤ way a) later
+    → AllByRecursion (λ a. shortest ≤ transit a) later
     → AllByRecursion (λ a. packet.picture ≤ a.picture → packet.captured ≤ a.captured) (later ++ before)
-    → IsTimed packet → way packet ≤ shortest + wait
+    → IsTimed packet → transit packet ≤ shortest + wait
     → IfSome (due_of wait packet.picture (later ++ before)) (λ time. packet.at ≤ time)
 in_time wait n p later before h t s said timed short =
     let past = later ++ before in

@@ -2,7 +2,7 @@
 use Rattle.std.specs.Prelude.{ℕ, ◌+◌, ◌-◌, nat_le, Bool, false, List, map, filter, Option, Some, None, if◌then◌else◌}
 use Rattle.std.specs.List.{list_any}
 use Rattle.playout_times.specs.declared.arrival.Arrival.{Arrival}
-use Rattle.playout_times.specs.Ways.{least, least_way}
+use Rattle.playout_times.specs.Ways.{least_number, least_way}
 
 -- a packet came of this picture or of a later one
 abbrev pub has_come : ℕ → List Arrival → Bool
@@ -11,7 +11,7 @@ has_come picture past = list_any (λ a. nat_le picture a.picture) past
 -- When a picture was captured: no later than any after it. So this is the earliest time that a
 -- packet of it, or of a later one, says.
 unfoldable pub captured_from : ℕ → List Arrival → ℕ
-captured_from picture past = least (map (λ a. a.captured) (filter (λ a. nat_le picture a.picture) past))
+captured_from picture past = least_number (map (λ a. a.captured) (filter (λ a. nat_le picture a.picture) past))
 
 -- the time at which a picture that was captured then is due, or 0 where that lies before the clock's
 -- zero

@@ -5,7 +5,7 @@ use Rattle.playout_times.specs.declared.arrival.Arrival.{Arrival}
 use Rattle.playout_times.specs.declared.recent.Recent.{Recent}
 use Rattle.playout_times.specs.declared.runs.Runs.{Runs}
 use Rattle.playout_times.specs.declared.times.Times.{Times}
-use Rattle.playout_times.specs.Ways.{least, ways, quarter_of, runs}
+use Rattle.playout_times.specs.Ways.{least_number, ways, quarter_of, runs}
 
 -- ---- the least ways
 
@@ -15,7 +15,7 @@ is_before gone quarter a = (quarter_of a.at + gone) == quarter
 
 -- the least way of those
 abbrev pub least_before : ℕ → ℕ → List Arrival → ℕ
-least_before gone quarter past = least (ways (filter (is_before gone quarter) past))
+least_before gone quarter past = least_number (ways (filter (is_before gone quarter) past))
 
 -- a quarter of a second and the two before, each by its least way
 pub record RecentStands (r : Recent) (quarter : ℕ) (past : List Arrival) : Type 0 where
@@ -26,17 +26,17 @@ pub record RecentStands (r : Recent) (quarter : ℕ) (past : List Arrival) : Typ
 
 -- the least way of a run, the last one being number 0
 abbrev pub least_of_run : ℕ → List (List Arrival) → ℕ
-least_of_run n [] = least []
-least_of_run zero (run ∷ before) = least (ways run)
+least_of_run n [] = least_number []
+least_of_run zero (run ∷ before) = least_number (ways run)
 least_of_run (suc n) (run ∷ before) = least_of_run n before
 
 -- the newest arrival, if there is one, is of this picture
-abbrev pub IsOf : ℕ → List Arrival → Type 0
-IsOf picture [] = Unit {0}
-IsOf picture (a ∷ past) = a.picture ≡ picture
+abbrev pub IsOfPicture : ℕ → List Arrival → Type 0
+IsOfPicture picture [] = Unit {0}
+IsOfPicture picture (a ∷ past) = a.picture ≡ picture
 
 pub record RunsStand (r : Runs) (past : List Arrival) : Type 0 where
-  pub picture : IsOf r.picture past
+  pub picture : IsOfPicture r.picture past
   pub last : r.last ≡ least_of_run 0 (runs past)
   pub before : r.before ≡ least_of_run 1 (runs past)
   pub earlier : r.earlier ≡ least_of_run 2 (runs past)
@@ -45,7 +45,7 @@ pub record RunsStand (r : Runs) (past : List Arrival) : Type 0 where
 
 -- the earliest time that a packet of this picture says
 abbrev pub captured_of : ℕ → List Arrival → ℕ
-captured_of picture past = least (map (λ a. a.captured) (filter (λ a. a.picture == picture) past))
+captured_of picture past = least_number (map (λ a. a.captured) (filter (λ a. a.picture == picture) past))
 
 -- these are the times of the next 64 pictures, and nothing came of a later one
 pub record CapturesStand (captured : List ℕ) (next : ℕ) (past : List Arrival) : Type 0 where
@@ -61,13 +61,13 @@ pub record IsTimed (a : Arrival) : Type 0 where
   pub at : a.at < 4611686018427387904
 
 -- the newest arrival, if there is one, came then
-abbrev pub IsNewest : ℕ → List Arrival → Type 0
-IsNewest time [] = Unit {0}
-IsNewest time (a ∷ past) = a.at ≡ time
+abbrev pub IsNewestArrival : ℕ → List Arrival → Type 0
+IsNewestArrival time [] = Unit {0}
+IsNewestArrival time (a ∷ past) = a.at ≡ time
 
 -- these arrivals came, the newest first
-pub record Stands (t : Times) (past : List Arrival) : Type 0 where
-  pub newest : IsNewest t.last past
+pub record TimesStand (t : Times) (past : List Arrival) : Type 0 where
+  pub newest : IsNewestArrival t.last past
   pub recent : RecentStands t.recent (quarter_of t.last) past
   pub runs : RunsStand t.runs past
   pub captured : CapturesStand t.captured t.next past

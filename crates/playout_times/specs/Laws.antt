@@ -2,13 +2,13 @@
 use Rattle.std.specs.Prelude.{◌≡◌, ℕ, ◌+◌, ◌<◌, ◌≤◌, List, [], ◌∷◌, ◌++◌, length, IfSome}
 use Rattle.std.specs.List.{AllByRecursion}
 use Rattle.playout_times.specs.declared.arrival.Arrival.{Arrival}
-use Rattle.playout_times.specs.Ways.{counted, least_way, quarter_of, runs, way}
+use Rattle.playout_times.specs.Ways.{counted, least_way, quarter_of, runs, transit}
 use Rattle.playout_times.specs.Due.{due_of}
 use Rattle.playout_times.specs.Kept.{IsTimed}
 
 -- no packet that counts was on its way for less
 abbrev pub LeastIsLeast : Type 0
-LeastIsLeast = (past : List Arrival) → AllByRecursion (λ a. least_way past ≤ way a) (counted past)
+LeastIsLeast = (past : List Arrival) → AllByRecursion (λ a. least_way past ≤ transit a) (counted past)
 
 -- when the newest of them came
 abbrev pub newest_at : List Arrival → ℕ
@@ -28,7 +28,7 @@ abbrev pub Recovers : Type 0
 Recovers =
     (shortest longest : ℕ) (later before : List Arrival) → Hides later before
     → AllByRecursion IsTimed later
-    → AllByRecursion (λ a. (shortest ≤ way a) × (way a ≤ longest)) later
+    → AllByRecursion (λ a. (shortest ≤ transit a) × (transit a ≤ longest)) later
     → (shortest ≤ least_way (later ++ before)) × (least_way (later ++ before) ≤ longest)
 
 -- Whatever came before: once three pictures came on ways of this length or longer, a packet whose
@@ -38,7 +38,7 @@ abbrev pub InTime : Type 0
 InTime =
     (wait shortest : ℕ) (packet : Arrival) (later before : List Arrival) → Hides later before
     → AllByRecursion IsTimed later
-    → AllByRecursion (λ a. shortest ≤ way a) later
+    → AllByRecursion (λ a. shortest ≤ transit a) later
     → AllByRecursion (λ a. packet.picture ≤ a.picture → packet.captured ≤ a.captured) (later ++ before)
-    → IsTimed packet → way packet ≤ shortest + wait
+    → IsTimed packet → transit packet ≤ shortest + wait
     → IfSome (due_of wait packet.picture (later ++ before)) (λ time. packet.at ≤ time)

@@ -4,16 +4,16 @@ use Rattle.playout_times.specs.declared.arrival.Arrival.{Arrival}
 
 -- The time between a picture's capture and the arrival of a packet of it. The two clocks have no
 -- common zero, so it is known but for a constant: 2^62 is added, and it is never negative.
-abbrev pub way : Arrival → ℕ
-way a = a.at + 4611686018427387904 - a.captured
+abbrev pub transit : Arrival → ℕ
+transit a = a.at + 4611686018427387904 - a.captured
 
 abbrev pub ways : List Arrival → List ℕ
-ways arrivals = map way arrivals
+ways arrivals = map transit arrivals
 
 -- the least of these numbers of 64 bits: of none the greatest that there is
-abbrev pub least : List ℕ → ℕ
-least [] = 18446744073709551615
-least (n ∷ ns) = min n (least ns)
+abbrev pub least_number : List ℕ → ℕ
+least_number [] = 18446744073709551615
+least_number (n ∷ ns) = min n (least_number ns)
 
 -- the quarter of a second in which a time lies
 abbrev pub quarter_of : ℕ → ℕ
@@ -48,4 +48,4 @@ counted [] = []
 counted (a ∷ past) = recent a.at (a ∷ past) ++ latest (a ∷ past)
 
 unfoldable pub least_way : List Arrival → ℕ
-least_way past = least (ways (counted past))
+least_way past = least_number (ways (counted past))

@@ -1,6 +1,6 @@
 //! A packet that came.
 ghost use Rattle.std.specs.Prelude.{◌≡◌, ◌+◌, ◌-◌, ◌<◌, ◌^◌};
-ghost use Rattle.playout_times.specs.Ways.{way};
+ghost use Rattle.playout_times.specs.Ways.{transit};
 
 /// A packet that came, by its picture and its times in nanoseconds, each below 2^62.
 #[derive(Clone, Copy)]
@@ -21,7 +21,7 @@ impl Arrival {
     pub(crate) fn way(&self) -> u64
         requires captured { self.now.captured < 2 ^ 62 }
         requires at { self.now.at < 2 ^ 62 }
-        ensures { result ≡ way self.now }
+        ensures { result ≡ transit self.now }
     {
         self.at + ORIGIN - self.captured
     }

@@ -2,7 +2,7 @@
 ghost use Rattle.std.specs.Prelude.{◌≡◌, ◌+◌, ◌<◌, ◌∷◌, List, [], ℕ, length, min, slice_index, slice_set, ◌-◌};
 ghost use Rattle.playout_times.specs.declared.arrival.Arrival.{Arrival};
 ghost use Rattle.playout_times.specs.Kept.{CapturesStand};
-ghost use Rattle.playout_times.specs.Ways.{least};
+ghost use Rattle.playout_times.specs.Ways.{least_number};
 
 use crate::arrival::Arrival;
 
@@ -55,7 +55,7 @@ pub fn forget(captured: &mut [u64])
 
 /// The earliest time.
 pub fn least_of(captured: &[u64]) -> u64
-    ensures { result ≡ least captured.now }
+    ensures { result ≡ least_number captured.now }
 {
     let mut earliest = u64::MAX;
     for time in captured {

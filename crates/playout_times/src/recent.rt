@@ -1,7 +1,7 @@
 //! The least ways of the last quarters of a second.
 ghost use Rattle.std.specs.Prelude.{◌≡◌, ◌+◌, ◌∷◌, ℕ, List, [], min};
 ghost use Rattle.playout_times.specs.declared.arrival.Arrival.{Arrival};
-ghost use Rattle.playout_times.specs.Ways.{quarter_of, way};
+ghost use Rattle.playout_times.specs.Ways.{quarter_of, transit};
 ghost use Rattle.playout_times.specs.Kept.{RecentStands};
 
 /// The least ways of a quarter of a second, and of the two before. Where nothing came it is the
@@ -49,7 +49,7 @@ impl Recent {
     /// The same with one more way, of this quarter of a second.
     pub fn with(&self, time: u64) -> Recent
         ensures { (quarter : ℕ) (a : Arrival) (past : List Arrival)
-            → RecentStands self.now quarter past → way a ≡ time → quarter_of a.at ≡ quarter
+            → RecentStands self.now quarter past → transit a ≡ time → quarter_of a.at ≡ quarter
             → RecentStands result quarter (a ∷ past) }
     {
         Recent {

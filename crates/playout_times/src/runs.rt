@@ -1,7 +1,7 @@
 //! The least ways of the last runs of packets of one picture.
 ghost use Rattle.std.specs.Prelude.{◌≡◌, ◌∷◌, List, [], min};
 ghost use Rattle.playout_times.specs.declared.arrival.Arrival.{Arrival};
-ghost use Rattle.playout_times.specs.Ways.{way};
+ghost use Rattle.playout_times.specs.Ways.{transit};
 ghost use Rattle.playout_times.specs.Kept.{RunsStand};
 
 /// The picture of the last run, and the least ways of that run and of the two before. Where there
@@ -30,7 +30,7 @@ impl Runs {
     /// The same with one more packet, of a picture, that was on its way for so long.
     pub fn with(&self, picture: u32, time: u64) -> Runs
         ensures { (a : Arrival) (past : List Arrival) → RunsStand self.now past
-            → a.picture ≡ picture → way a ≡ time → RunsStand result (a ∷ past) }
+            → a.picture ≡ picture → transit a ≡ time → RunsStand result (a ∷ past) }
     {
         if self.picture == picture {
             Runs {

@@ -2,7 +2,7 @@
 ghost use Rattle.std.specs.Prelude.{◌≡◌, ◌↔◌, ◌+◌, ◌<◌, ◌^◌, ◌∷◌, List, [], IsTrue};
 ghost use Rattle.playout_times.specs.declared.arrival.Arrival.{Arrival};
 ghost use Rattle.playout_times.specs.Due.{due_of, is_due_by};
-ghost use Rattle.playout_times.specs.Kept.{MayCome, Stands};
+ghost use Rattle.playout_times.specs.Kept.{MayCome, TimesStand};
 
 use crate::arrival::Arrival;
 use crate::captures::{self, PICTURES};
@@ -37,7 +37,7 @@ impl Times {
         ensures next { result.next ≡ next }
         ensures wait { result.wait ≡ wait }
         ensures last { result.last ≡ 0 }
-        ensures stands { Stands result [] }
+        ensures stands { TimesStand result [] }
     {
         Times {
             next,
@@ -75,8 +75,8 @@ impl Times {
         ensures next { self.new.next ≡ self.old.next }
         ensures wait { self.new.wait ≡ self.old.wait }
         ensures last { self.new.last ≡ arrival.at }
-        ensures stands { (past : List Arrival) → Stands self.old past
-            → Stands self.new (arrival ∷ past) }
+        ensures stands { (past : List Arrival) → TimesStand self.old past
+            → TimesStand self.new (arrival ∷ past) }
     {
         let time = arrival.way();
         let quarters = arrival.at / QUARTER - self.last / QUARTER;
@@ -92,7 +92,7 @@ impl Times {
         ensures next { self.new.next ≡ self.old.next + 1 }
         ensures wait { self.new.wait ≡ self.old.wait }
         ensures last { self.new.last ≡ self.old.last }
-        ensures stands { (past : List Arrival) → Stands self.old past → Stands self.new past }
+        ensures stands { (past : List Arrival) → TimesStand self.old past → TimesStand self.new past }
     {
         captures::forget(&mut self.captured);
         self.next += 1;
@@ -101,7 +101,7 @@ impl Times {
     /// When the next picture is due, in nanoseconds. None where nothing came of it, or of a later
     /// one.
     pub fn due(&self) -> Option<u64>
-        ensures { (past : List Arrival) → Stands self.now past
+        ensures { (past : List Arrival) → TimesStand self.now past
             → result ≡ due_of self.now.wait self.now.next past }
     {
         let captured = captures::least_of(&self.captured);
@@ -119,7 +119,7 @@ impl Times {
 
     /// Whether the next picture is due by now.
     pub fn is_due(&self, now: u64) -> bool
-        ensures { (past : List Arrival) → Stands self.now past
+        ensures { (past : List Arrival) → TimesStand self.now past
             → result ≡ is_due_by now (due_of self.now.wait self.now.next past) }
     {
         match self.due() {

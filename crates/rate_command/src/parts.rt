@@ -3,7 +3,7 @@ ghost use Rattle.std.specs.Prelude.{◌≡◌, ℕ, true, OnOk, OnErr, IfErr};
 ghost use Rattle.h263_outside.specs.Desk.{OnlyWrites, Rose};
 ghost use Rattle.h263_outside.specs.declared.desk.Role.TheVariants.{Report};
 ghost use Rattle.desk_program.specs.Ends.{Gains, GainsFronts};
-ghost use Rattle.rate_control.specs.Text.{text_of};
+ghost use Rattle.rate_control.specs.Text.{meter_text};
 ghost use Rattle.rate_command.specs.Rate.{answer_text, last_text};
 ghost use Rattle.desk_program.specs.Texts.{on};
 
@@ -15,9 +15,9 @@ use rate_control::{Metered, Text, picture_text};
 /// Writes a line of the report.
 pub fn put_text<D: Desk>(desk: &mut D, text: &Text) -> Result<(), Status>
     requires { (D.outside desk.old).attached Report ≡ true }
-    ensures ok { OnOk result (Gains (on Report (text_of text.now)) (D.outside desk.old).written
+    ensures ok { OnOk result (Gains (on Report (meter_text text.now)) (D.outside desk.old).written
         (D.outside desk.new).written) }
-    ensures err { OnErr result (GainsFronts (on Report (text_of text.now))
+    ensures err { OnErr result (GainsFronts (on Report (meter_text text.now))
         (D.outside desk.old).written (D.outside desk.new).written) }
     ensures kind { IfErr result (λ status. status ≡ Status.WriteFault) }
     ensures cause { OnErr result (Rose (D.outside desk.old).faults.write

@@ -3,7 +3,7 @@ use Rattle.std.proofs.Common.{◌≡◌, ℕ, ◌+◌, ◌-◌, ◌≤◌, max, 
 use Rattle.std.specs.Prelude.{count_by}
 use Rattle.std.proofs.lemmas.List.{get_or_push, length_push, length-map, map_push}
 use Rattle.std.proofs.lemmas.List.Sums.{count_by-le-length, sum_by-append, sum_by_push}
-use Rattle.rate_control.specs.Level.{greatest, level_of}
+use Rattle.rate_control.specs.Level.{greatest_or_0, level_of}
 use Rattle.rate_control.specs.Pictures.{greatest_level, levels, over_in, prefixes}
 use Rattle.rate_control.specs.Metering.{going_on, last_of}
 use Rattle.rate_control.proofs.Levels.{level_push, reached}
@@ -24,10 +24,10 @@ levels_push t sizes x =
 max_regroup : (a b c : ℕ) → max a (max b c) ≡ max (max a b) c
 max_regroup a b c = omega arith
 
-greatest_push : (ns : List ℕ) (n : ℕ) → greatest (ns ++ n ∷ []) ≡ max (greatest ns) n
+greatest_push : (ns : List ℕ) (n : ℕ) → greatest_or_0 (ns ++ n ∷ []) ≡ max (greatest_or_0 ns) n
 greatest_push [] n = omega arith
 greatest_push (m ∷ ns) n =
-    ap (λ (k : ℕ). max m k) (greatest_push ns n) ∙ max_regroup m (greatest ns) n
+    ap (λ (k : ℕ). max m k) (greatest_push ns n) ∙ max_regroup m (greatest_or_0 ns) n
 
 pub greatest_level_none : (t : ℕ) → greatest_level t [] ≡ 0
 unfolding greatest_level
@@ -37,7 +37,7 @@ pub greatest_level_push : (t : ℕ) (sizes : List ℕ) (x : ℕ)
     → greatest_level t (sizes ++ x ∷ []) ≡ max (greatest_level t sizes) (level_of t (sizes ++ x ∷ []))
 unfolding greatest_level
 greatest_level_push t sizes x =
-    ap (λ (l : List ℕ). greatest l) (levels_push t sizes x)
+    ap (λ (l : List ℕ). greatest_or_0 l) (levels_push t sizes x)
     ∙ greatest_push (levels t sizes) (level_of t (sizes ++ x ∷ []))
 
 pub over_none : (t bucket : ℕ) → over_in t bucket [] ≡ 0

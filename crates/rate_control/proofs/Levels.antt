@@ -5,8 +5,8 @@ use Rattle.std.proofs.lemmas.Nat.{le-div, mul-le}
 use Rattle.std.proofs.Math.Nat.{div-mul-le_self, div-zero}
 use Rattle.std.proofs.lemmas.List.{length_push, take_more}
 use Rattle.std.proofs.lemmas.List.Sums.{sum_by-cons, sum_by_push}
-use Rattle.rate_control.specs.Level.{level_of, excess, NoneShrinks, quant_after}
-use Rattle.rate_control.specs.Laws.{BoundsSuffixes, IsCalm, IsReached}
+use Rattle.rate_control.specs.Level.{level_of, excess, NoneShrinks, bucket_quant}
+use Rattle.rate_control.specs.Laws.{BoundsSuffixes, IsCalm, IsSuffixReached}
 
 -- ---- one picture more
 
@@ -63,13 +63,14 @@ bounds t sizes front back e =
 
 -- the whole list lies furthest above its target, or a suffix after its first picture does
 at_front : (t y : ℕ) (sizes : List ℕ) → level_of t sizes < (sum (y ∷ sizes) - length (y ∷ sizes) * t)
-    → IsReached t (y ∷ sizes)
+    → IsSuffixReached t (y ∷ sizes)
 at_front t y sizes h =
     let e = level_cons t y sizes in
     record { front = []; back = y ∷ sizes; whole = refl; same = omega (arith, e) }
 
-further : (t y : ℕ) (sizes : List ℕ) → (sum (y ∷ sizes) - length (y ∷ sizes) * t) ≤ level_of t sizes → IsReached t sizes
-    → IsReached t (y ∷ sizes)
+further : (t y : ℕ) (sizes : List ℕ) → (sum (y ∷ sizes) - length (y ∷ sizes) * t) ≤ level_of t sizes
+    → IsSuffixReached t sizes
+    → IsSuffixReached t (y ∷ sizes)
 further t y sizes h r =
     let e = level_cons t y sizes in
     let s = r.same in
@@ -80,7 +81,7 @@ further t y sizes h r =
       same = omega (arith, e, s);
     }
 
-pub reached : (t : ℕ) (sizes : List ℕ) → IsReached t sizes
+pub reached : (t : ℕ) (sizes : List ℕ) → IsSuffixReached t sizes
 reached t [] =
     let z = level_none t in
     record { front = []; back = []; whole = refl; same = omega (arith, z) }
@@ -142,7 +143,8 @@ quotient a b (suc t) h =
     let below = div-mul-le_self a (suc t) in
     le-div (a / suc t) b (suc t) (omega arith) (omega (arith, below))
 
-pub quant_no_less : (t first : ℕ) (xs ys : List ℕ) → NoneShrinks xs ys → quant_after t first xs ≤ quant_after t first ys
+pub quant_no_less : (t first : ℕ) (xs ys : List ℕ) → NoneShrinks xs ys
+    → bucket_quant t first xs ≤ bucket_quant t first ys
 quant_no_less t first xs ys h =
     let l = level_no_less t xs ys h in
     let q = quotient (4 * level_of t xs) (4 * level_of t ys) t (omega (arith, l)) in
@@ -165,7 +167,7 @@ quotient_greater a b t more h some greater =
     le-div (a / more) b t (omega (arith, some)) (omega (arith, below, less, h))
 
 pub quant_no_coarser : (t more first : ℕ) (sizes : List ℕ) → 1 ≤ t → t ≤ more
-    → quant_after more first sizes ≤ quant_after t first sizes
+    → bucket_quant more first sizes ≤ bucket_quant t first sizes
 quant_no_coarser t more first sizes some greater =
     let l = level_greater t more sizes greater in
     let q = quotient_greater (4 * level_of more sizes) (4 * level_of t sizes) t more (omega (arith, l)) some greater in

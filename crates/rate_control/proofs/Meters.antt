@@ -10,8 +10,8 @@ use Rattle.rate_control.specs.declared.meter.Meter.{Meter}
 use Rattle.rate_control.specs.declared.meter.Metered.TheVariants.{Same, Ended}
 use Rattle.rate_control.specs.declared.meter.Totals.{Totals}
 use Rattle.rate_control.specs.Level.{level_of}
-use Rattle.rate_control.specs.Pictures.{accepted, alone, pictures_of, sizes_in, sizes_of, refused_in, greatest_level, over_in}
-use Rattle.rate_control.specs.Metering.{HasRoomAtEnd, HasRoomFor, IsGoing, MeterStands, answer_of, after_picture, after_picture_with, differs, ended, going_on, joined, last_of, last_time, metered, taking, telling, time_of, totals_of}
+use Rattle.rate_control.specs.Pictures.{accepted, picture_alone, metered_pictures, sizes_in, metered_sizes, refused_in, greatest_level, over_in}
+use Rattle.rate_control.specs.Metering.{HasRoomAtEnd, HasRoomFor, IsGoing, MeterStands, answer_of, after_picture, after_picture_with, differs, ended, going_on, pictures_joined, last_of, last_time, metered, meter_taking, telling, timestamp_going_on, totals_of}
 use Rattle.rate_control.proofs.Levels.{level_none, level_push}
 use Rattle.rate_control.proofs.Ends.{going_push, greatest_level_none, greatest_level_push, last_push, level_short, over_few, over_none, over_push}
 use Rattle.rate_control.proofs.Runs.{ReadsShort, accepted_refused, bytes_past, bytes_short, pictures_few, pictures_first, pictures_next, pictures_refused, pictures_same, refused_more, refused_same, time_push}
@@ -78,7 +78,7 @@ pub new_stands : (target bucket : ℕ) → MeterStands (record {
   over = 0;
   refused = 0;
 }) []
-unfolding pictures_of
+unfolding metered_pictures
 new_stands target bucket =
     record {
       past = [];
@@ -93,15 +93,15 @@ new_stands target bucket =
 
 -- the picture that is going on, as the pictures have it
 going_none : (m : Meter) (packets : List (List ℕ)) → m.picture ≡ None → (s : MeterStands m packets)
-    → IsGoing None s.past (pictures_of packets)
-going_none m packets e s = subst (λ (o : Option Picture). IsGoing o s.past (pictures_of packets)) e s.going
+    → IsGoing None s.past (metered_pictures packets)
+going_none m packets e s = subst (λ (o : Option Picture). IsGoing o s.past (metered_pictures packets)) e s.going
 
 going_at : (m : Meter) (packets : List (List ℕ)) (p : Picture) → m.picture ≡ Some p → (s : MeterStands m packets)
-    → pictures_of packets ≡ s.past ++ p ∷ []
-going_at m packets p e s = subst (λ (o : Option Picture). IsGoing o s.past (pictures_of packets)) e s.going
+    → metered_pictures packets ≡ s.past ++ p ∷ []
+going_at m packets p e s = subst (λ (o : Option Picture). IsGoing o s.past (metered_pictures packets)) e s.going
 
 first_stands : (m : Meter) (packets : List (List ℕ)) (bytes : List ℕ) (x : Picture) (r : Rtp)
-    → rtp_in bytes ≡ Ok r → alone bytes ≡ x ∷ [] → m.picture ≡ None → MeterStands m packets
+    → rtp_in bytes ≡ Ok r → picture_alone bytes ≡ x ∷ [] → m.picture ≡ None → MeterStands m packets
     → MeterStands (record m { picture = Some x }) (packets ++ bytes ∷ [])
 first_stands m packets bytes x r ok e none s =
     let g = going_none m packets none s in
@@ -117,9 +117,9 @@ first_stands m packets bytes x r ok e none s =
     }
 
 same_stands : (m : Meter) (packets : List (List ℕ)) (bytes : List ℕ) (x : Picture) (r : Rtp)
-    → rtp_in bytes ≡ Ok r → alone bytes ≡ x ∷ [] → (p : Picture) → m.picture ≡ Some p → MeterStands m packets
+    → rtp_in bytes ≡ Ok r → picture_alone bytes ≡ x ∷ [] → (p : Picture) → m.picture ≡ Some p → MeterStands m packets
     → eqb p.timestamp x.timestamp ≡ true
-    → MeterStands (record m { picture = Some (joined p x) }) (packets ++ bytes ∷ [])
+    → MeterStands (record m { picture = Some (pictures_joined p x) }) (packets ++ bytes ∷ [])
 same_stands m packets bytes x r ok e p is s same =
     record {
       past = s.past;
@@ -133,7 +133,7 @@ same_stands m packets bytes x r ok e p is s same =
     }
 
 next_stands : (m : Meter) (packets : List (List ℕ)) (bytes : List ℕ) (x : Picture) (r : Rtp)
-    → rtp_in bytes ≡ Ok r → alone bytes ≡ x ∷ [] → (p : Picture) → m.picture ≡ Some p → MeterStands m packets
+    → rtp_in bytes ≡ Ok r → picture_alone bytes ≡ x ∷ [] → (p : Picture) → m.picture ≡ Some p → MeterStands m packets
     → eqb p.timestamp x.timestamp ≡ false
     → MeterStands (after_picture_with m p.size x) (packets ++ bytes ∷ [])
 next_stands m packets bytes x r ok e p is s other =
@@ -152,11 +152,12 @@ next_stands m packets bytes x r ok e p is s other =
     }
 
 taken_by : (m : Meter) (packets : List (List ℕ)) (bytes : List ℕ) (x : Picture) (r : Rtp)
-    → rtp_in bytes ≡ Ok r → alone bytes ≡ x ∷ [] → (o : Option Picture) → m.picture ≡ o → MeterStands m packets
-    → MeterStands (taking m o x) (packets ++ bytes ∷ [])
+    → rtp_in bytes ≡ Ok r → picture_alone bytes ≡ x ∷ [] → (o : Option Picture) → m.picture ≡ o → MeterStands m packets
+    → MeterStands (meter_taking m o x) (packets ++ bytes ∷ [])
 taken_by m packets bytes x r ok e None is s = first_stands m packets bytes x r ok e is s
 taken_by m packets bytes x r ok e (Some p) is s =
-    cond_both (eqb p.timestamp x.timestamp) (record m { picture = Some (joined p x) }) (after_picture_with m p.size x)
+    cond_both (eqb p.timestamp x.timestamp) (record m { picture = Some (pictures_joined p x) })
+    (after_picture_with m p.size x)
     (λ (n : Meter). MeterStands n (packets ++ bytes ∷ []))
     (same_stands m packets bytes x r ok e p is s)
     (next_stands m packets bytes x r ok e p is s)
@@ -165,25 +166,25 @@ taken_by m packets bytes x r ok e (Some p) is s =
 abbrev pub read_as : Rtp → List ℕ → Picture
 read_as r bytes = record { timestamp = r.timestamp; size = length bytes }
 
-alone_is : (bytes : List ℕ) (r : Rtp) → rtp_in bytes ≡ Ok r → alone bytes ≡ read_as r bytes ∷ []
+alone_is : (bytes : List ℕ) (r : Rtp) → rtp_in bytes ≡ Ok r → picture_alone bytes ≡ read_as r bytes ∷ []
 alone_is bytes r e = rw e
 
 pub taken_stands : (m : Meter) (packets : List (List ℕ)) (bytes : List ℕ) (r : Rtp)
     → rtp_in bytes ≡ Ok r → MeterStands m packets
-    → MeterStands (taking m m.picture (read_as r bytes)) (packets ++ bytes ∷ [])
+    → MeterStands (meter_taking m m.picture (read_as r bytes)) (packets ++ bytes ∷ [])
 taken_stands m packets bytes r ok s =
     taken_by m packets bytes (read_as r bytes) r ok (alone_is bytes r ok) m.picture refl s
 
 -- ---- the answer
 
-sizes_at : (packets : List (List ℕ)) (past : List Picture) (p : Picture) → pictures_of packets ≡ past ++ p ∷ []
-    → sizes_of packets ≡ sizes_in past ++ p.size ∷ []
-unfolding sizes_of
+sizes_at : (packets : List (List ℕ)) (past : List Picture) (p : Picture) → metered_pictures packets ≡ past ++ p ∷ []
+    → metered_sizes packets ≡ sizes_in past ++ p.size ∷ []
+unfolding metered_sizes
 sizes_at packets past p e = ap (λ (l : List Picture). sizes_in l) e ∙ sizes_push past p
 
 -- the last picture, as the meter has it
 last_at : (m : Meter) (packets : List (List ℕ)) (p : Picture) → m.picture ≡ Some p → MeterStands m packets
-    → last_of m.target (sizes_of packets) ≡ (m.pictures, p.size, m.level + p.size - m.target)
+    → last_of m.target (metered_sizes packets) ≡ (m.pictures, p.size, m.level + p.size - m.target)
 last_at m packets p is s =
     let k = counts_of m packets s in
     ap (λ (l : List ℕ). last_of m.target l) (sizes_at packets s.past p (going_at m packets p is s))
@@ -192,25 +193,25 @@ last_at m packets p is s =
     ∙ ap (λ (n : ℕ). (m.pictures, p.size, n + p.size - m.target)) (sym k.level)
 
 tells : (m : Meter) (packets : List (List ℕ)) (p x : Picture) (b : Bool)
-    → last_of m.target (sizes_of packets) ≡ (m.pictures, p.size, m.level + p.size - m.target)
+    → last_of m.target (metered_sizes packets) ≡ (m.pictures, p.size, m.level + p.size - m.target)
     → cond b Same (Ended m.pictures p.size (m.level + p.size - m.target))
-    ≡ cond (not b) (ended (last_of m.target (sizes_of packets))) Same
+    ≡ cond (not b) (ended (last_of m.target (metered_sizes packets))) Same
 tells m packets p x true e = refl
 tells m packets p x false e = ap (λ (l : ℕ × ℕ × ℕ). ended l) (sym e)
 
 answer_at : (m : Meter) (packets : List (List ℕ)) (r : Rtp) (o : Option ℕ) → last_time (accepted packets) ≡ o
-    → cond (differs o r.timestamp) (ended (last_of m.target (sizes_of packets))) Same
+    → cond (differs o r.timestamp) (ended (last_of m.target (metered_sizes packets))) Same
     ≡ answer_of m.target packets (Ok r)
 answer_at m packets r o e =
-    ap (λ (t : Option ℕ). cond (differs t r.timestamp) (ended (last_of m.target (sizes_of packets))) Same) (sym e)
+    ap (λ (t : Option ℕ). cond (differs t r.timestamp) (ended (last_of m.target (metered_sizes packets))) Same) (sym e)
 
 told_by : (m : Meter) (packets : List (List ℕ)) (bytes : List ℕ) (r : Rtp) (o : Option Picture) → m.picture ≡ o
     → MeterStands m packets → telling m o (read_as r bytes) ≡ answer_of m.target packets (Ok r)
 told_by m packets bytes r None is s =
-    answer_at m packets r None (s.time ∙ ap (λ (o : Option Picture). time_of o) is)
+    answer_at m packets r None (s.time ∙ ap (λ (o : Option Picture). timestamp_going_on o) is)
 told_by m packets bytes r (Some p) is s =
     tells m packets p (read_as r bytes) (eqb p.timestamp r.timestamp) (last_at m packets p is s)
-    ∙ answer_at m packets r (Some p.timestamp) (s.time ∙ ap (λ (o : Option Picture). time_of o) is)
+    ∙ answer_at m packets r (Some p.timestamp) (s.time ∙ ap (λ (o : Option Picture). timestamp_going_on o) is)
 
 pub told : (m : Meter) (packets : List (List ℕ)) (bytes : List ℕ) (r : Rtp) → rtp_in bytes ≡ Ok r
     → MeterStands m packets → telling m m.picture (read_as r bytes) ≡ metered m.target packets bytes
@@ -251,7 +252,7 @@ pub past_room : (law : ReadsShort) (m : Meter) (packets : List (List ℕ)) → M
     → length packets ≤ 16777216
     → (m.pictures < 4294967295) × (m.over < 4294967295)
 past_room law m packets s few =
-    let a = past_few m.picture s.past (pictures_of packets) s.going in
+    let a = past_few m.picture s.past (metered_pictures packets) s.going in
     let b = pictures_few law packets in
     let c = s.count in
     let d = over_few m.target m.bucket (sizes_in s.past) in
@@ -295,7 +296,7 @@ room_for law m packets s few x short =
 
 -- ---- the end of a log
 
-totals_by : (target bucket : ℕ) (packets : List (List ℕ)) (sizes : List ℕ) → sizes_of packets ≡ sizes
+totals_by : (target bucket : ℕ) (packets : List (List ℕ)) (sizes : List ℕ) → metered_sizes packets ≡ sizes
     → totals_of target bucket packets
     ≡ record {
       last = going_on target sizes;
@@ -323,8 +324,8 @@ same_totals a b last pictures greatest over refused =
     ∙ ap (λ (x : ℕ). record b { over = x; refused = a.refused }) over
     ∙ ap (λ (x : ℕ). record b { refused = x }) refused
 
-no_sizes : (packets : List (List ℕ)) → pictures_of packets ≡ [] → sizes_of packets ≡ []
-unfolding sizes_of
+no_sizes : (packets : List (List ℕ)) → metered_pictures packets ≡ [] → metered_sizes packets ≡ []
+unfolding metered_sizes
 no_sizes packets e = ap (λ (l : List Picture). sizes_in l) e
 
 pub closed_empty : (m : Meter) (packets : List (List ℕ)) → m.picture ≡ None → MeterStands m packets

@@ -9,7 +9,7 @@ use Rattle.rate_control.specs.declared.meter.Metered.{Metered}
 use Rattle.rate_control.specs.declared.meter.Metered.TheVariants.{Same, Ended, Refused}
 use Rattle.rate_control.specs.declared.meter.Totals.{Totals}
 use Rattle.rate_control.specs.Level.{level_of}
-use Rattle.rate_control.specs.Pictures.{accepted, pictures_of, sizes_in, sizes_of, refused_in, greatest_level, over_in}
+use Rattle.rate_control.specs.Pictures.{accepted, metered_pictures, sizes_in, metered_sizes, refused_in, greatest_level, over_in}
 
 -- the timestamp of the last one
 abbrev pub last_time : List Picture → Option ℕ
@@ -36,7 +36,7 @@ abbrev pub answer_of : ℕ → List (List ℕ) → Result Rtp Fault → Metered
 answer_of target packets (Err fault) = Refused fault
 answer_of target packets (Ok r) =
     if differs (last_time (accepted packets)) r.timestamp
-    then ended (last_of target (sizes_of packets))
+    then ended (last_of target (metered_sizes packets))
     else Same
 
 abbrev pub metered : ℕ → List (List ℕ) → List ℕ → Metered
@@ -50,7 +50,7 @@ going_on target (size ∷ sizes) = Some (last_of target (size ∷ sizes))
 -- what there is to say of a whole log
 abbrev pub totals_of : ℕ → ℕ → List (List ℕ) → Totals
 totals_of target bucket packets =
-    let sizes = sizes_of packets in
+    let sizes = metered_sizes packets in
     record {
       last = going_on target sizes;
       pictures = length sizes;
@@ -67,16 +67,16 @@ IsGoing None past pictures = (past ≡ []) × (pictures ≡ [])
 IsGoing (Some p) past pictures = pictures ≡ past ++ p ∷ []
 
 -- the timestamp of the picture that is going on
-abbrev pub time_of : Option Picture → Option ℕ
-time_of None = None
-time_of (Some p) = Some p.timestamp
+abbrev pub timestamp_going_on : Option Picture → Option ℕ
+timestamp_going_on None = None
+timestamp_going_on (Some p) = Some p.timestamp
 
 -- The meter was given these packets: it has one number of the pictures that have ended, the level
 -- at the end of the last of them, and counts.
 pub record MeterStands (m : Meter) (packets : List (List ℕ)) : Type 0 where
   pub past : List Picture
-  pub going : IsGoing m.picture past (pictures_of packets)
-  pub time : last_time (accepted packets) ≡ time_of m.picture
+  pub going : IsGoing m.picture past (metered_pictures packets)
+  pub time : last_time (accepted packets) ≡ timestamp_going_on m.picture
   pub count : m.pictures ≡ length past
   pub level : m.level ≡ level_of m.target (sizes_in past)
   pub greatest : m.greatest ≡ greatest_level m.target (sizes_in past)
@@ -84,7 +84,7 @@ pub record MeterStands (m : Meter) (packets : List (List ℕ)) : Type 0 where
   pub refused : m.refused ≡ refused_in packets
 
 -- it was given fewer packets than a log may have
-pub record HasRoom (m : Meter) : Type 0 where
+pub record HasRoomInLog (m : Meter) : Type 0 where
   pub packets : List (List ℕ)
   pub stands : MeterStands m packets
   pub few : length packets < 16777216
@@ -113,15 +113,15 @@ after_picture_with m size next =
     record after { picture = Some next }
 
 -- one picture of both
-abbrev pub joined : Picture → Picture → Picture
-joined p x = record { timestamp = p.timestamp; size = p.size + x.size }
+abbrev pub pictures_joined : Picture → Picture → Picture
+pictures_joined p x = record { timestamp = p.timestamp; size = p.size + x.size }
 
 -- the meter and its answer after an accepted packet, by the picture that was going on
-abbrev pub taking : Meter → Option Picture → Picture → Meter
-taking m None x = record m { picture = Some x }
-taking m (Some p) x =
+abbrev pub meter_taking : Meter → Option Picture → Picture → Meter
+meter_taking m None x = record m { picture = Some x }
+meter_taking m (Some p) x =
     if p.timestamp == x.timestamp
-    then record m { picture = Some (joined p x) }
+    then record m { picture = Some (pictures_joined p x) }
     else after_picture_with m p.size x
 
 abbrev pub telling : Meter → Option Picture → Picture → Metered

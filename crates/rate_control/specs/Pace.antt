@@ -1,7 +1,7 @@
 -- The pace of a sender: with a target in bytes per picture, or with none.
 use Rattle.std.specs.Prelude.{ℕ, List, Option, Some, None}
 use Rattle.h263_types.specs.declared.params.Params.{Params}
-use Rattle.rate_control.specs.Level.{quant_after}
+use Rattle.rate_control.specs.Level.{bucket_quant}
 use Rattle.rate_control.specs.declared.send_pace.SendPace.{SendPace}
 use Rattle.rate_control.specs.declared.send_pace.SendPace.TheVariants.{Fixed, Bucket}
 
@@ -9,7 +9,7 @@ use Rattle.rate_control.specs.declared.send_pace.SendPace.TheVariants.{Fixed, Bu
 -- the level of the bucket lies above it
 abbrev pub quant_after_sizes : Option ℕ → ℕ → List ℕ → ℕ
 quant_after_sizes None first sizes = first
-quant_after_sizes (Some target) first sizes = quant_after target first sizes
+quant_after_sizes (Some target) first sizes = bucket_quant target first sizes
 
 -- with the parameters' quantiser as the first
 abbrev pub pace_of : Option ℕ → Params → List ℕ → ℕ
@@ -20,6 +20,6 @@ abbrev pub target_of : SendPace → Option ℕ
 target_of (Fixed pace) = None
 target_of (Bucket pace) = Some pace.target
 
-abbrev pub first_of : SendPace → ℕ
-first_of (Fixed pace) = pace.quant
-first_of (Bucket pace) = pace.first
+abbrev pub first_quant : SendPace → ℕ
+first_quant (Fixed pace) = pace.quant
+first_quant (Bucket pace) = pace.first

@@ -1,8 +1,8 @@
 //! The meter: it follows the level of a leaky bucket over the packets of a log.
 ghost use Rattle.std.specs.Prelude.{◌≡◌, ◌+◌, ◌-◌, ◌<◌, ◌≤◌, ◌^◌, ◌∷◌, [], ◌++◌, List, ℕ};
 ghost use Rattle.h263_bits.specs.declared.fault.Fault.{Fault};
-ghost use Rattle.rate_control.specs.Metering.{HasRoom, HasRoomAtEnd, HasRoomFor, IsMeter, MeterStands};
-ghost use Rattle.rate_control.specs.Metering.{after_picture, metered, taking, telling, totals_of};
+ghost use Rattle.rate_control.specs.Metering.{HasRoomInLog, HasRoomAtEnd, HasRoomFor, IsMeter, MeterStands};
+ghost use Rattle.rate_control.specs.Metering.{after_picture, metered, meter_taking, telling, totals_of};
 
 use crate::level::filled;
 use h263_bits::Fault;
@@ -85,7 +85,7 @@ impl Meter {
 
     /// Takes the bytes of a packet. Fewer than 16,777,216 were taken before.
     pub fn packet(&mut self, bytes: &[u8]) -> Metered
-        requires { HasRoom self.old }
+        requires { HasRoomInLog self.old }
         ensures target { self.new.target ≡ self.old.target }
         ensures bucket { self.new.bucket ≡ self.old.bucket }
         ensures stands { (packets : List (List ℕ)) → MeterStands self.old packets
@@ -112,7 +112,7 @@ impl Meter {
     // Takes an accepted packet.
     fn take(&mut self, packet: Picture) -> Metered
         requires { HasRoomFor self.old packet }
-        ensures meter { self.new ≡ taking self.old self.old.picture packet }
+        ensures meter { self.new ≡ meter_taking self.old self.old.picture packet }
         ensures answer { result ≡ telling self.old self.old.picture packet }
     {
         let Some(picture) = self.picture else {

@@ -43,9 +43,9 @@ impl BucketPace {
 }
 
 impl Pace for BucketPace {
-    ghost use Rattle.rate_control.specs.Level.{quant_after};
+    ghost use Rattle.rate_control.specs.Level.{bucket_quant};
 
-    ghost quant_of = { λ pace sizes. quant_after pace.target pace.first sizes };
+    ghost quant_of = { λ pace sizes. bucket_quant pace.target pace.first sizes };
 
     fn quant(&self, sizes: &[u32]) -> u8 {
         let level = level_after(self.target, sizes);

@@ -1,6 +1,6 @@
 //! The pace of a sender, with a rate controller or without one.
 ghost use Rattle.std.specs.Prelude.{◌≡◌, ◌≤◌, IfSome};
-ghost use Rattle.rate_control.specs.Pace.{first_of, target_of};
+ghost use Rattle.rate_control.specs.Pace.{first_quant, target_of};
 
 use crate::pace::BucketPace;
 use h263_types::{FixedPace, Pace};
@@ -21,7 +21,7 @@ impl SendPace {
         requires low { 1 ≤ quant }
         requires high { quant ≤ 31 }
         ensures target { target_of result ≡ target }
-        ensures first { first_of result ≡ quant }
+        ensures first { first_quant result ≡ quant }
     {
         match target {
             None => SendPace::Fixed(FixedPace { quant }),
@@ -31,7 +31,7 @@ impl SendPace {
 
     // The quantiser of the first picture.
     fn first(&self) -> u8
-        ensures value { result ≡ first_of self.now }
+        ensures value { result ≡ first_quant self.now }
         ensures low { 1 ≤ result }
         ensures high { result ≤ 31 }
     {
@@ -46,16 +46,16 @@ impl SendPace {
         requires some { IfSome target (λ n. 1 ≤ n) }
         requires few { IfSome target (λ n. n ≤ 999999) }
         ensures target { target_of self.new ≡ target }
-        ensures first { first_of self.new ≡ first_of self.old }
+        ensures first { first_quant self.new ≡ first_quant self.old }
     {
         *self = SendPace::choose(target, self.first());
     }
 }
 
 impl Pace for SendPace {
-    ghost use Rattle.rate_control.specs.Pace.{first_of, quant_after_sizes, target_of};
+    ghost use Rattle.rate_control.specs.Pace.{first_quant, quant_after_sizes, target_of};
 
-    ghost quant_of = { λ pace. quant_after_sizes (target_of pace) (first_of pace) };
+    ghost quant_of = { λ pace. quant_after_sizes (target_of pace) (first_quant pace) };
 
     fn quant(&self, sizes: &[u32]) -> u8 {
         match self {

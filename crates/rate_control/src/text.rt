@@ -1,6 +1,7 @@
 //! The lines of a meter.
 ghost use Rattle.std.specs.Prelude.{◌≡◌, ◌≤◌, ◌+◌, ◌++◌, [], length, decimal};
-ghost use Rattle.rate_control.specs.Text.{counted, newline, picture_line, text_of, totals_line};
+ghost use Rattle.h263_types.specs.Texts.{newline};
+ghost use Rattle.rate_control.specs.Text.{counted_word, picture_line, meter_text, totals_line};
 
 use crate::meter::Totals;
 use arrayvec::ArrayString;
@@ -17,7 +18,7 @@ pub struct Text {
 
 impl Text {
     fn empty() -> Text
-        ensures { text_of result ≡ [] }
+        ensures { meter_text result ≡ [] }
     {
         Text {
             line: ArrayString::new(),
@@ -26,22 +27,22 @@ impl Text {
 
     /// Its bytes, with the newline.
     pub fn text(&self) -> &[u8]
-        ensures value { result.now ≡ text_of self.now }
+        ensures value { result.now ≡ meter_text self.now }
         ensures fits { length result.now ≤ 128 }
     {
         self.line.as_str().as_bytes()
     }
 
     fn put(&mut self, text: &str)
-        requires { length (text_of self.old) + length text.now ≤ 128 }
-        ensures { text_of self.new ≡ text_of self.old ++ text.now }
+        requires { length (meter_text self.old) + length text.now ≤ 128 }
+        ensures { meter_text self.new ≡ meter_text self.old ++ text.now }
     {
         self.line.push_str(text);
     }
 
     fn put_digits(&mut self, number: u64)
-        requires { length (text_of self.old) + length (decimal number) ≤ 128 }
-        ensures { text_of self.new ≡ text_of self.old ++ decimal number }
+        requires { length (meter_text self.old) + length (decimal number) ≤ 128 }
+        ensures { meter_text self.new ≡ meter_text self.old ++ decimal number }
     {
         let mut buffer = Buffer::new();
         self.put(buffer.format(number));
@@ -49,18 +50,18 @@ impl Text {
 
     // A word, and its number of 20 digits at most.
     fn count(&mut self, word: &str, number: u64)
-        requires { length (text_of self.old) + length word.now + 20 ≤ 128 }
-        ensures value { text_of self.new ≡ text_of self.old ++ counted word.now number }
-        ensures len { length (text_of self.new)
-            ≤ length (text_of self.old) + length word.now + 20 }
+        requires { length (meter_text self.old) + length word.now + 20 ≤ 128 }
+        ensures value { meter_text self.new ≡ meter_text self.old ++ counted_word word.now number }
+        ensures len { length (meter_text self.new)
+            ≤ length (meter_text self.old) + length word.now + 20 }
     {
         self.put(word);
         self.put_digits(number);
     }
 
     fn end(&mut self)
-        requires { length (text_of self.old) + 1 ≤ 128 }
-        ensures { text_of self.new ≡ text_of self.old ++ newline }
+        requires { length (meter_text self.old) + 1 ≤ 128 }
+        ensures { meter_text self.new ≡ meter_text self.old ++ newline }
     {
         self.put("\n");
     }
@@ -68,7 +69,7 @@ impl Text {
 
 /// The line of a picture that has ended: its number, its size in bytes, and the level.
 pub fn picture_text(number: u32, size: u64, level: u64) -> Text
-    ensures { text_of result ≡ picture_line number size level }
+    ensures { meter_text result ≡ picture_line number size level }
 {
     let mut text = Text::empty();
     text.count("", number as u64);
@@ -81,7 +82,7 @@ pub fn picture_text(number: u32, size: u64, level: u64) -> Text
 /// The line of a whole log: how many pictures there are, the greatest level, how many levels lay
 /// above the bucket, and how many packets were refused.
 pub fn totals_text(totals: &Totals) -> Text
-    ensures { text_of result ≡ totals_line totals.now }
+    ensures { meter_text result ≡ totals_line totals.now }
 {
     let mut text = Text::empty();
     text.count("pictures ", totals.pictures as u64);

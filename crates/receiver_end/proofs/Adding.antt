@@ -4,7 +4,7 @@ use Rattle.h263_types.specs.declared.format.Format.{Format}
 use Rattle.h263_types.specs.Sizes.{mbs_of}
 use Rattle.packet_collector.specs.declared.collector.Collector.{Collector}
 use Rattle.packet_collector.specs.Taken.{Taken}
-use Rattle.packet_collector.specs.Taken.{holds as has_piece}
+use Rattle.packet_collector.specs.Taken.{head_holds as has_piece}
 use Rattle.packet_collector.specs.Collected.{Collects, IsInRow, IsRowFrom, first_of, format_of, header_in, has_in}
 use Rattle.receiver_end.proofs.Headers.{one_kept, kept_before, kept_now}
 use Rattle.receiver_end.proofs.Marked.{taken_more, taken_other}

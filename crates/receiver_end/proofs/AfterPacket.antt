@@ -18,11 +18,11 @@ use Rattle.receiver_end.specs.declared.answers.Heard.{Heard}
 use Rattle.receiver_end.specs.Answers.{IsHeard, takes}
 use Rattle.receiver_end.specs.Decoding.{decoding}
 use Rattle.receiver_end.specs.State.{Stands, seen}
-use Rattle.receiver_end.specs.Steps.{Spells, ack_of, piece_in, taking}
+use Rattle.receiver_end.specs.Steps.{IsPieceOf, ack_of, piece_in, taking}
 use Rattle.receiver_end.proofs.AfterSlice.{run_long}
 
 pub spelled : (piece : Piece) (mbs : List Mb) → piece.head.first + piece.head.count ≤ length mbs
-    → Spells piece (piece_in piece mbs)
+    → IsPieceOf piece (piece_in piece mbs)
 spelled piece mbs inside = record {
   header = refl;
   first = refl;

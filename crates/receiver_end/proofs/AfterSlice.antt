@@ -13,22 +13,22 @@ use Rattle.h263_types.specs.Blocks.{mb_in}
 use Rattle.h263_planes.specs.Picture.{Picture}
 use Rattle.h263_planes.specs.Spots.{spot, sample_of, owner_of, picture_by, AreSpots, ArePicturesBySamples}
 use Rattle.picture_recon.specs.Samples.{sample_in}
-use Rattle.picture_store.specs.Pictures.{Pictures, slots_of, slot_of, number_in, picture_in, work_in, Keeps}
+use Rattle.picture_store.specs.Pictures.{StoredPictures, slots_of, slot_of, slot_number, picture_in, work_in, Keeps}
 use Rattle.slice_layer.specs.Filled.{mbs_from}
 use Rattle.packet_collector.specs.declared.collector.Collector.{Collector}
 use Rattle.packet_collector.specs.declared.piece.Piece.{Piece}
-use Rattle.packet_collector.specs.Taken.{holds as has_piece}
+use Rattle.packet_collector.specs.Taken.{head_holds as has_piece}
 use Rattle.packet_collector.specs.Collected.{IsInRow, has_in}
 use Rattle.call_model.specs.Numbers.{OneRestIsFar, all_below, flags_of}
 use Rattle.call_model.specs.Coding as call
 use Rattle.call_model.specs.ReceiverStanding.{IsAfterSlice, completes, reference_picture}
 use Rattle.call_decoding.specs.Rules.{rules_of}
-use Rattle.call_decoding.specs.Styles.{Style, header_of}
+use Rattle.call_decoding.specs.Styles.{Style, call_header_of}
 use Rattle.receiver_end.specs.declared.kept.Kept.{Kept}
 use Rattle.receiver_end.specs.declared.judging.Fresh.{Fresh}
 use Rattle.receiver_end.specs.Decoding.{decoding}
-use Rattle.receiver_end.specs.State.{Fits, seen, holds, picture_at, screen_in, work_of, last_work}
-use Rattle.receiver_end.specs.Steps.{IsFresh, IsDrawn, IsSameBut, IsReferenceOf, ack_of, picture_of_reference, piece_in, taking}
+use Rattle.receiver_end.specs.State.{Fits, seen, slot_holds, open_picture, screen_in, work_of, last_work}
+use Rattle.receiver_end.specs.Steps.{IsFreshPiece, IsDrawn, IsSameBut, IsReferenceOf, ack_of, picture_of_reference, piece_in, taking}
 use Rattle.receiver_end.specs.Answers.{IsHeard, IsSaid}
 use Rattle.receiver_end.specs.declared.answers.Heard.TheVariants as heards
 use Rattle.back_messages.specs.declared.writing.Said.{Said}
@@ -51,13 +51,13 @@ mb_same out first count k low high =
     ∙ get_or-drop first out (k - first) Skip ∙ ap (λ (i : ℕ). get_or out i Skip) e
 
 module _ (p : Params) (some : 0 < p.slots) where
-  pub held_same : (s t : Pictures) (m : ℕ) → t.numbers ≡ s.numbers → holds p t m ≡ holds p s m
+  pub held_same : (s t : StoredPictures) (m : ℕ) → t.numbers ≡ s.numbers → slot_holds p t m ≡ slot_holds p s m
   held_same s t m same = ap (λ (l : List (Option ℕ)). option_map_or (λ k. eqb k m) (get_or l (m % p.slots) None) false)
       same
 
   -- a picture that isn't in the work picture that was drawn
-  pub picture_still : (s t : Pictures) (m w : ℕ) → slots_of s ≡ p.slots → IsSameBut s t w → (work_of p m ≡ w → ⊥)
-      → picture_at p t m ≡ picture_at p s m
+  pub picture_still : (s t : StoredPictures) (m w : ℕ) → slots_of s ≡ p.slots → IsSameBut s t w → (work_of p m ≡ w → ⊥)
+      → open_picture p t m ≡ open_picture p s m
   picture_still s t m w slots same differ =
       let lt : m % p.slots < p.slots = mod-lt m some in
       let test = held_same s t m same.numbers in
@@ -69,7 +69,7 @@ module _ (p : Params) (some : 0 < p.slots) where
       ∙ same.others (slots_of s + work_of p m) (λ e. differ (omega (arith, e))) in
       λ i. if test i then kept i else work i
 
-  pub screen_still : (s t : Pictures) (played w : ℕ) (exact : Bool) → slots_of s ≡ p.slots → IsSameBut s t w
+  pub screen_still : (s t : StoredPictures) (played w : ℕ) (exact : Bool) → slots_of s ≡ p.slots → IsSameBut s t w
       → (last_work p played ≡ w → ⊥) → screen_in p t exact played ≡ screen_in p s exact played
   screen_still s t played w true slots same differ =
       same.others ((played - 1) % p.slots) (λ e. let lt : (played - 1) % p.slots < p.slots = mod-lt (played - 1) some in
@@ -79,7 +79,7 @@ module _ (p : Params) (some : 0 < p.slots) where
       ap (λ (k : ℕ). picture_in t (k + last_work p played)) count
       ∙ same.others (slots_of s + last_work p played) (λ e. differ (omega (arith, e)))
 
-module _ (r : Kept) (c : Collector) (s : Pictures) (mbs : List Mb) (piece : Piece) (f : Fresh)
+module _ (r : Kept) (c : Collector) (s : StoredPictures) (mbs : List Mb) (piece : Piece) (f : Fresh)
     (d : IsDrawn r c s mbs piece f) (inside-mbs : piece.head.first + piece.head.count ≤ length mbs) where
   holds_same : (k : ℕ) → call.has_mb (piece_in piece mbs).slice k ≡ has_piece piece.head k
   unfolding call.has_mb
@@ -109,10 +109,11 @@ module _ (r : Kept) (c : Collector) (s : Pictures) (mbs : List Mb) (piece : Piec
       → IsHeard r.params.clock heards.Taken (taking r f.number (piece_in piece mbs))
   taken_part none = rw (completed ∙ none) refl
 
-module _ (far : OneRestIsFar) (spots : AreSpots) (by : ArePicturesBySamples) (r : Kept) (c : Collector) (s : Pictures)
+module _ (far : OneRestIsFar) (spots : AreSpots) (by : ArePicturesBySamples) (r : Kept) (c : Collector)
+    (s : StoredPictures)
     (mbs : List Mb) (piece : Piece) (f : Fresh)
-    (ok : Fits r) (fresh : IsFresh r piece f) (d : IsDrawn r c s mbs piece f)
-    (inside-mbs : piece.head.first + piece.head.count ≤ length mbs) (unheld : holds r.params r.store f.number
+    (ok : Fits r) (fresh : IsFreshPiece r piece f) (d : IsDrawn r c s mbs piece f)
+    (inside-mbs : piece.head.first + piece.head.count ≤ length mbs) (unheld : slot_holds r.params r.store f.number
     ≡ false) where
   abbrev n : ℕ
   n = f.number
@@ -142,7 +143,8 @@ module _ (far : OneRestIsFar) (spots : AreSpots) (by : ArePicturesBySamples) (r 
       ≡ all_below (mbs_of r.params.format) (has_in c n)
   all_is = completed r c s mbs piece f d inside-mbs
 
-  at_work : (t : Pictures) → t.numbers ≡ r.store.numbers → picture_at r.params t n ≡ work_in t (work_of r.params n)
+  at_work : (t : StoredPictures) → t.numbers ≡ r.store.numbers → open_picture r.params t n
+      ≡ work_in t (work_of r.params n)
   at_work t same = ap (λ (b : Bool). if b then picture_in t (n % r.params.slots) else work_in t (work_of r.params n))
       (held_same r.params some r.store t n same ∙ unheld)
 
@@ -166,7 +168,7 @@ module _ (far : OneRestIsFar) (spots : AreSpots) (by : ArePicturesBySamples) (r 
 
   drawn : (i : ℕ) → owner_of r.params.format i < mbs_of r.params.format
       → call.has_mb p.slice (owner_of r.params.format i) ≡ true
-      → sample_of (picture_at r.params s n) (spot r.params.format i)
+      → sample_of (open_picture r.params s n) (spot r.params.format i)
       ≡ sample_in piece.header.rounding (reference_picture (decoding r.params.format) (rules_of r.params)
       (seen r) n p.header) (call.mb_at Skip p.slice (owner_of r.params.format i)) (spot r.params.format i).plane
       (spot r.params.format i).x (spot r.params.format i).y
@@ -186,8 +188,8 @@ module _ (far : OneRestIsFar) (spots : AreSpots) (by : ArePicturesBySamples) (r 
 
   left : (i : ℕ) → owner_of r.params.format i < mbs_of r.params.format
       → call.has_mb p.slice (owner_of r.params.format i) ≡ false
-      → sample_of (picture_at r.params s n) (spot r.params.format i)
-      ≡ sample_of (picture_at r.params r.store n) (spot r.params.format i)
+      → sample_of (open_picture r.params s n) (spot r.params.format i)
+      ≡ sample_of (open_picture r.params r.store n) (spot r.params.format i)
   left i inside has =
       ap (λ (q : Picture). sample_of q (spot r.params.format i)) (at_work s d.store.numbers) ∙ here i false inside has
       ∙ ap (λ (q : Picture). sample_of q (spot r.params.format i)) (sym (at_work r.store refl))
@@ -215,7 +217,7 @@ module _ (far : OneRestIsFar) (spots : AreSpots) (by : ArePicturesBySamples) (r 
   abbrev with_part : Kept
   with_part = record r { collector = c; store = s }
 
-  number_same : (k : ℕ) → number_in s k ≡ number_in r.store k
+  number_same : (k : ℕ) → slot_number s k ≡ slot_number r.store k
   number_same k = ap (λ (l : List (Option ℕ)). get_or l k None) d.store.numbers
 
   slot_same : (k : ℕ) → k < r.params.slots → picture_in s k ≡ picture_in r.store k
@@ -226,12 +228,12 @@ module _ (far : OneRestIsFar) (spots : AreSpots) (by : ArePicturesBySamples) (r 
   in_part none = record {
     played = refl;
     screen = screen_still r.params some r.store s r.played (work_of r.params n) r.exact ok.slots d.store last_differs;
-    header = ap (option_map header_of) d.header;
+    header = ap (option_map call_header_of) d.header;
     has = has_after;
     drawn = drawn;
     left = left;
     rows = λ m row ne. let kept = d.rows m (row_of_number m row.0 row.1) ne in (
-      ap (option_map header_of) kept.0,
+      ap (option_map call_header_of) kept.0,
       kept.1,
       picture_still r.params some r.store s m (work_of r.params n) ok.slots d.store
           (work_differs m row.0 row.1 ne),
@@ -241,7 +243,8 @@ module _ (far : OneRestIsFar) (spots : AreSpots) (by : ArePicturesBySamples) (r 
     slots = λ rest lt ne. (number_same rest, slot_same rest lt);
   }
 
-  module _ (u : Pictures) (k : Keeps s u n (work_of r.params n)) (all : all_below (mbs_of r.params.format) (has_in c n)
+  module _ (u : StoredPictures) (k : Keeps s u n (work_of r.params n)) (all : all_below (mbs_of r.params.format)
+      (has_in c n)
       ≡ true) where
     abbrev with_whole : Kept
     with_whole = record r { collector = c; store = u }
@@ -255,7 +258,7 @@ module _ (far : OneRestIsFar) (spots : AreSpots) (by : ArePicturesBySamples) (r 
     long : length s.pictures ≡ r.params.slots + (r.params.lead + 2)
     long = d.store.many ∙ ok.works
 
-    other_slot : (i : ℕ) → i < r.params.slots → (i ≡ n % r.params.slots → ⊥) → (number_in u i ≡ number_in s i)
+    other_slot : (i : ℕ) → i < r.params.slots → (i ≡ n % r.params.slots → ⊥) → (slot_number u i ≡ slot_number s i)
         × (picture_in u i ≡ picture_in s i)
     other_slot i lt ne = (
       ap (λ (l : List (Option ℕ)). get_or l i None) k.numbers
@@ -275,7 +278,7 @@ module _ (far : OneRestIsFar) (spots : AreSpots) (by : ArePicturesBySamples) (r 
           slots_are,
         )) (λ e. ne (omega (arith, e)))
 
-    own_number : number_in u (n % r.params.slots) ≡ Some n
+    own_number : slot_number u (n % r.params.slots) ≡ Some n
     own_number =
         ap (λ (l : List (Option ℕ)). get_or l (n % r.params.slots) None) k.numbers
         ∙ ap (λ (i : ℕ). get_or (set s.numbers (slot_of s n) (Some n)) i None) (sym slot_is)
@@ -285,7 +288,7 @@ module _ (far : OneRestIsFar) (spots : AreSpots) (by : ArePicturesBySamples) (r 
     own_picture : picture_in u (n % r.params.slots) ≡ work_in s (work_of r.params n)
     own_picture = ap (picture_in u) (sym slot_is) ∙ k.kept
 
-    own_at : picture_at r.params u n ≡ picture_at r.params s n
+    own_at : open_picture r.params u n ≡ open_picture r.params s n
     own_at =
         ap (λ (o : Option ℕ). if option_map_or (λ i. eqb i n) o false then picture_in u
         (n % r.params.slots) else work_in u (work_of r.params n)) own_number
@@ -307,8 +310,8 @@ module _ (far : OneRestIsFar) (spots : AreSpots) (by : ArePicturesBySamples) (r 
     screen_kept false first = other_work (last_work r.params r.played) (mod-lt (r.played + r.params.lead + 1)
         (omega arith)) last_differs
 
-    at_kept : (m : ℕ) → r.played ≤ m → m ≤ r.played + r.params.lead → (m ≡ n → ⊥) → picture_at r.params u m
-        ≡ picture_at r.params s m
+    at_kept : (m : ℕ) → r.played ≤ m → m ≤ r.played + r.params.lead → (m ≡ n → ⊥) → open_picture r.params u m
+        ≡ open_picture r.params s m
     at_kept m low' high' ne =
         let slot = other_slot (m % r.params.slots) (mod-lt m some) (slot_differs m low' high' ne) in
         let work = other_work (work_of r.params m) (mod-lt m (omega arith)) (work_differs m low' high' ne) in
@@ -321,13 +324,13 @@ module _ (far : OneRestIsFar) (spots : AreSpots) (by : ArePicturesBySamples) (r 
           screen = screen_kept r.exact (λ e. (ok.exact e).0)
               ∙ screen_still r.params some r.store s r.played (work_of r.params n) r.exact ok.slots d.store
               last_differs;
-          header = ap (option_map header_of) d.header;
+          header = ap (option_map call_header_of) d.header;
           has = has_after;
           drawn = λ i inside has. ap (λ (q : Picture). sample_of q (spot r.params.format i)) own_at
               ∙ drawn i inside has;
           left = λ i inside has. ap (λ (q : Picture). sample_of q (spot r.params.format i)) own_at ∙ left i inside has;
           rows = λ m row ne. let kept = d.rows m (row_of_number m row.0 row.1) ne in (
-            ap (option_map header_of) kept.0,
+            ap (option_map call_header_of) kept.0,
             kept.1,
             at_kept m row.0 row.1 ne ∙ picture_still r.params some r.store s m (work_of r.params n) ok.slots d.store
                 (work_differs m row.0 row.1 ne),
@@ -338,13 +341,13 @@ module _ (far : OneRestIsFar) (spots : AreSpots) (by : ArePicturesBySamples) (r 
               (kept.0 ∙ number_same rest, kept.1 ∙ slot_same rest lt);
         }
       where
-        is_at : picture_at r.params u n ≡ work_in s (work_of r.params n)
+        is_at : open_picture r.params u n ≡ work_in s (work_of r.params n)
         is_at = own_at ∙ at_work s d.store.numbers
 
         made : picture_in u (n % r.params.slots)
-            ≡ picture_by r.params.format (λ i. sample_of (picture_at r.params u n) (spot r.params.format i))
+            ≡ picture_by r.params.format (λ i. sample_of (open_picture r.params u n) (spot r.params.format i))
         made =
             own_picture
-            ∙ by.only r.params.format (work_in s (work_of r.params n)) (λ i. sample_of (picture_at r.params u n)
+            ∙ by.only r.params.format (work_in s (work_of r.params n)) (λ i. sample_of (open_picture r.params u n)
             (spot r.params.format i)) d.whole.0 d.whole.1.whole
             (λ i inside. ap (λ (q : Picture). sample_of q (spot r.params.format i)) (sym is_at))

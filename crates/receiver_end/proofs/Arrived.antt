@@ -7,18 +7,18 @@ use Rattle.h263_bits.specs.declared.fault.Fault.{Fault}
 use Rattle.h263_types.specs.declared.blocks.Mb.{Mb}
 use Rattle.h263_types.specs.Clocks.{half_of}
 use Rattle.packet_collector.specs.declared.piece.Piece.{Piece}
-use Rattle.packet_collector.specs.Packet.{Slice, packet_at}
+use Rattle.packet_collector.specs.Packet.{PacketSlice, packet_at}
 use Rattle.call_model.specs.Coding as call
 use Rattle.call_model.specs.Receiving.{ReceiverEntry, piece_number}
 use Rattle.call_model.specs.Sending.{nearest}
 use Rattle.call_decoding.specs.Rules.{rules_of}
-use Rattle.call_decoding.specs.Styles.{Style, header_of}
+use Rattle.call_decoding.specs.Styles.{Style, call_header_of}
 use Rattle.receiver_end.specs.declared.kept.Kept.{Kept}
 use Rattle.receiver_end.specs.Decoding.{decoding, with_piece}
 use Rattle.receiver_end.specs.State.{Stands, number_after, run_of}
 use Rattle.receiver_end.proofs.Numbered.{halves}
 
-module _ (r : Kept) (piece : Piece) (p : call.Piece Style Mb) (spells : p.header ≡ header_of piece.header) where
+module _ (r : Kept) (piece : Piece) (p : call.Piece Style Mb) (spells : p.header ≡ call_header_of piece.header) where
   pub of_other_clock : (piece.header.clock ≡ r.params.clock → ⊥) → None ≡ piece_number (rules_of r.params) r.played p
   unfolding piece_number
   of_other_clock differ =
@@ -38,7 +38,8 @@ module _ (r : Kept) (piece : Piece) (p : call.Piece Style Mb) (spells : p.header
 pub number_err : (r : Kept) (past : List ReceiverEntry) (bytes : List ℕ) (fault : Fault)
     → packet_at r.params.format bytes ≡ Err fault → None ≡ number_after r.params past bytes
 number_err r past bytes fault read =
-    ap (λ (x : Result Slice Fault). option_and_then (piece_number (rules_of r.params) (run_of r.params past).played)
+    ap (λ (x : Result PacketSlice Fault). option_and_then (piece_number (rules_of r.params)
+    (run_of r.params past).played)
     (result_ok (with_piece x))) (sym read)
 
 -- one that is read is of the picture that its slice is of

@@ -2,8 +2,8 @@
 use Rattle.std.proofs.Common.{◌≡◌, ℕ, ◌-◌, length, Some, ap, sym, ◌∙◌, arith, length-set}
 use Rattle.h263_types.specs.declared.format.Format.{Format}
 use Rattle.h263_types.specs.Sizes.{mbs_of}
-use Rattle.picture_store.specs.Pictures.{Pictures, slot_of, Keeps}
-use Rattle.packet_collector.specs.Taken.{has_taken, is_whole}
+use Rattle.picture_store.specs.Pictures.{StoredPictures, slot_of, Keeps}
+use Rattle.packet_collector.specs.Taken.{is_mb_taken, is_whole}
 use Rattle.packet_collector.specs.Collected.{IsInRow, format_of, has_in}
 use Rattle.call_model.specs.Numbers.{OneRestIsFar, all_below}
 use Rattle.receiver_end.specs.declared.kept.Kept.{Kept}
@@ -16,10 +16,10 @@ pub all_marked : (r : Kept) (n : ℕ) (ok : Fits r) → IsInRow r.collector n
     → all_below (mbs_of r.params.format) (has_in r.collector n) ≡ is_whole (format_of r.collector) ok.taken n
 all_marked r n ok row =
     ap (λ (f : Format). all_below (mbs_of f) (has_in r.collector n)) (sym ok.collected)
-    ∙ all_same (mbs_of (format_of r.collector)) (has_in r.collector n) (has_taken ok.taken n)
+    ∙ all_same (mbs_of (format_of r.collector)) (has_in r.collector n) (is_mb_taken ok.taken n)
     (λ k lt. ok.collects.marks n k row lt)
 
-pub fits_whole : OneRestIsFar → (r : Kept) (u : Pictures) (n : ℕ) → Fits r → IsInRow r.collector n
+pub fits_whole : OneRestIsFar → (r : Kept) (u : StoredPictures) (n : ℕ) → Fits r → IsInRow r.collector n
     → Keeps r.store u n (work_of r.params n) → Fits (record r { store = u })
 fits_whole far r u n ok row k = record {
   params = ok.params;

@@ -5,12 +5,12 @@ use Rattle.std.proofs.lemmas.Bool.{eqb-true, eq-eqb, ne_eqb, and_parts, and_from
 use Rattle.h263_bits.specs.Syntax.{IsIn}
 use Rattle.h263_types.specs.declared.format.Format.{Format}
 use Rattle.picture_header.specs.declared.header.Header.{Header}
-use Rattle.packet_collector.specs.Taken.{Taken, has_any, has_taken, HasOther, HasNoOther}
-use Rattle.packet_collector.specs.Taken.{holds as has_piece}
-use Rattle.packet_collector.specs.Collected.{IsKept}
+use Rattle.packet_collector.specs.Taken.{Taken, is_any_taken, is_mb_taken, HasOther, HasNoOther}
+use Rattle.packet_collector.specs.Taken.{head_holds as has_piece}
+use Rattle.packet_collector.specs.Collected.{IsHeaderKept}
 use Rattle.call_model.specs.Coding as call
 use Rattle.call_model.specs.Stands.{fits_kept}
-use Rattle.call_decoding.specs.Styles.{Style, header_of, header_from}
+use Rattle.call_decoding.specs.Styles.{Style, call_header_of, header_from}
 use Rattle.receiver_end.specs.Decoding.{decoding}
 use Rattle.receiver_end.proofs.Styles.{styles_are, style_self}
 
@@ -51,47 +51,51 @@ pub record Member (taken : List Taken) (n : ℕ) : Type 0 where
   pub in_list : IsIn one taken
   pub number : one.number ≡ n
 
-pub member : (taken : List Taken) (n : ℕ) → has_any taken n ≡ true → Member taken n
-unfolding has_any
+pub member : (taken : List Taken) (n : ℕ) → is_any_taken taken n ≡ true → Member taken n
+unfolding is_any_taken
 member [] n e = absurd cc
 member (t ∷ ts) n e = at (eqb t.number n) refl e (member ts n)
   where
-    at : (b : Bool) → eqb t.number n ≡ b → (b || has_any ts n) ≡ true → (has_any ts n ≡ true → Member ts n)
+    at : (b : Bool) → eqb t.number n ≡ b → (b || is_any_taken ts n) ≡ true → (is_any_taken ts n ≡ true → Member ts n)
         → Member (t ∷ ts) n
     at true same e more = record { one = t; in_list = inl refl; number = eqb-true _ _ same }
     at false same e more = let m = more e in record { one = m.one; in_list = inr m.in_list; number = m.number }
 
-pub absent : (taken : List Taken) (n : ℕ) → has_any taken n ≡ false → (t : Taken) → IsIn t taken → t.number ≡ n → ⊥
-unfolding has_any
+pub absent : (taken : List Taken) (n : ℕ) → is_any_taken taken n ≡ false → (t : Taken) → IsIn t taken → t.number ≡ n → ⊥
+unfolding is_any_taken
 absent [] n e t is same = elim is [ ]
 absent (u ∷ us) n e t is same = at (eqb u.number n) refl e is (λ none there. absent us n none t there same)
   where
-    at : (b : Bool) → eqb u.number n ≡ b → (b || has_any us n) ≡ false → (u ≡ t) ⊎ IsIn t us
-        → (has_any us n ≡ false → IsIn t us → ⊥) → ⊥
+    at : (b : Bool) → eqb u.number n ≡ b → (b || is_any_taken us n) ≡ false → (u ≡ t) ⊎ IsIn t us
+        → (is_any_taken us n ≡ false → IsIn t us → ⊥) → ⊥
     at true same' e is more = absurd cc
     at false other e (inl here) more = both (eqb u.number n) (eq-eqb _ _ (ap (λ (x : Taken). x.number) here
         ∙ same)) other
     at false other e (inr there) more = more e there
 
-module _ (f : Format) (whole : (h : Header) → header_from (header_of h) ≡ h) where
-  pub fits : (taken : List Taken) (n : ℕ) (h : Header) (o : Option Header) → IsKept taken n o → HasNoOther taken n h
-      → fits_kept (decoding f) (option_map header_of o) (header_of h) ≡ true
+module _ (f : Format) (whole : (h : Header) → header_from (call_header_of h) ≡ h) where
+  pub fits : (taken : List Taken) (n : ℕ) (h : Header) (o : Option Header) → IsHeaderKept taken n o
+      → HasNoOther taken n h
+      → fits_kept (decoding f) (option_map call_header_of o) (call_header_of h) ≡ true
   fits taken n h None kept none = refl
   fits taken n h (Some k) kept none =
       let m = member taken n kept.0 in
       let same : k ≡ h = sym (kept.1 m.one m.in_list m.number) ∙ none m.one m.in_list m.number in
-      subst (λ (x : Header). call.same_header (decoding f) (header_of x) (header_of h) ≡ true) (sym same)
-      (header_self f (header_of h))
+      subst (λ (x : Header). call.same_header (decoding f) (call_header_of x) (call_header_of h) ≡ true) (sym same)
+      (header_self f (call_header_of h))
 
-  pub differs : (taken : List Taken) (n : ℕ) (h : Header) (o : Option Header) → IsKept taken n o → HasOther taken n h
-      → fits_kept (decoding f) (option_map header_of o) (header_of h) ≡ false
+  pub differs : (taken : List Taken) (n : ℕ) (h : Header) (o : Option Header) → IsHeaderKept taken n o
+      → HasOther taken n h
+      → fits_kept (decoding f) (option_map call_header_of o) (call_header_of h) ≡ false
   differs taken n h None kept (t, is, same, other) = absurd (absent taken n kept t is same)
   differs taken n h (Some k) kept (t, is, same, other) = false_from_ne_true _ (λ e.
-      let equal : k ≡ h = sym (whole k) ∙ ap header_from (headers_are f (header_of k) (header_of h) e) ∙ whole h in
+      let equal : k ≡ h = sym (whole k) ∙ ap header_from (headers_are f (call_header_of k) (call_header_of h) e)
+      ∙ whole h in
       other (kept.1 t is same ∙ equal))
 
 -- the header that is kept of a picture is one
-pub one_kept : (taken : List Taken) (n : ℕ) (a b : Option Header) → IsKept taken n a → IsKept taken n b → a ≡ b
+pub one_kept : (taken : List Taken) (n : ℕ) (a b : Option Header) → IsHeaderKept taken n a → IsHeaderKept taken n b
+    → a ≡ b
 one_kept taken n None None p q = refl
 one_kept taken n None (Some k) p q = absurd (both _ q.0 p)
 one_kept taken n (Some h) None p q = absurd (both _ p.0 q)
@@ -101,9 +105,9 @@ one_kept taken n (Some h) (Some k) p q =
 
 -- a slice of another picture changes nothing
 pub kept_before : (t : Taken) (taken : List Taken) (m : ℕ) (o : Option Header) → (t.number ≡ m → ⊥)
-    → IsKept (t ∷ taken) m o → IsKept taken m o
-unfolding has_any
-kept_before t taken m None other is = rest (eqb t.number m) (has_any taken m) is
+    → IsHeaderKept (t ∷ taken) m o → IsHeaderKept taken m o
+unfolding is_any_taken
+kept_before t taken m None other is = rest (eqb t.number m) (is_any_taken taken m) is
   where
     rest : (a b : Bool) → (a || b) ≡ false → b ≡ false
     rest true b e = absurd cc
@@ -113,31 +117,34 @@ kept_before t taken m (Some h) other is = (
   λ u in-list same. is.1 u (inr in-list) same,
 )
   where
-    rest : eqb t.number m ≡ false → (eqb t.number m || has_any taken m) ≡ true → has_any taken m ≡ true
-    rest e got = subst (λ (b : Bool). (b || has_any taken m) ≡ true) e got
+    rest : eqb t.number m ≡ false → (eqb t.number m || is_any_taken taken m) ≡ true → is_any_taken taken m ≡ true
+    rest e got = subst (λ (b : Bool). (b || is_any_taken taken m) ≡ true) e got
 
 -- a slice of the picture itself has its header
-pub kept_now : (t : Taken) (taken : List Taken) (n : ℕ) (o : Option Header) → t.number ≡ n → IsKept (t ∷ taken) n o
+pub kept_now : (t : Taken) (taken : List Taken) (n : ℕ) (o : Option Header) → t.number ≡ n
+    → IsHeaderKept (t ∷ taken) n o
     → o ≡ Some t.piece.header
 kept_now t taken n None same is = absurd (absent (t ∷ taken) n is t (inl refl) same)
 kept_now t taken n (Some h) same is = ap (λ (x : Header). Some x) (sym (is.1 t (inl refl) same))
 
 -- of a picture of which nothing was taken no header is kept
-pub kept_none : (taken : List Taken) (n : ℕ) (o : Option Header) → has_any taken n ≡ false → IsKept taken n o → o ≡ None
+pub kept_none : (taken : List Taken) (n : ℕ) (o : Option Header) → is_any_taken taken n ≡ false → IsHeaderKept taken n o
+    → o ≡ None
 kept_none taken n None none is = refl
 kept_none taken n (Some h) none is = absurd (both _ is.0 none)
 
 -- nothing was taken of a number that no slice has
-pub none_of : (taken : List Taken) (n : ℕ) → ((t : Taken) → IsIn t taken → t.number ≡ n → ⊥) → has_any taken n ≡ false
+pub none_of : (taken : List Taken) (n : ℕ) → ((t : Taken) → IsIn t taken → t.number ≡ n → ⊥)
+    → is_any_taken taken n ≡ false
 none_of taken n none = false_from_ne_true _ (λ e. let m = member taken n e in none m.one m.in_list m.number)
 
 -- nor any macroblock
-pub untaken : (taken : List Taken) (n k : ℕ) → has_any taken n ≡ false → has_taken taken n k ≡ false
-unfolding has_any has_taken
+pub untaken : (taken : List Taken) (n k : ℕ) → is_any_taken taken n ≡ false → is_mb_taken taken n k ≡ false
+unfolding is_any_taken is_mb_taken
 untaken [] n k none = refl
 untaken (t ∷ ts) n k none = at (eqb t.number n) (has_piece t.piece.head k) none (untaken ts n k)
   where
-    at : (a b : Bool) → (a || has_any ts n) ≡ false → (has_any ts n ≡ false → has_taken ts n k ≡ false)
-        → ((a && b) || has_taken ts n k) ≡ false
+    at : (a b : Bool) → (a || is_any_taken ts n) ≡ false → (is_any_taken ts n ≡ false → is_mb_taken ts n k ≡ false)
+        → ((a && b) || is_mb_taken ts n k) ≡ false
     at true b e more = absurd cc
     at false b e more = more e

@@ -5,9 +5,9 @@ use Rattle.std.proofs.Math.Nat.{mod-lt}
 use Rattle.std.proofs.lemmas.Bool.{and_parts, false_from_ne_true, eqb-true, eqb-false}
 use Rattle.h263_types.specs.Sizes.{mbs_of}
 use Rattle.h263_types.specs.Blocks.{IsHeadOf}
-use Rattle.picture_store.specs.Pictures.{number_in}
+use Rattle.picture_store.specs.Pictures.{slot_number}
 use Rattle.packet_collector.specs.declared.piece.Piece.{Piece}
-use Rattle.packet_collector.specs.Taken.{none_in}
+use Rattle.packet_collector.specs.Taken.{none_in_head}
 use Rattle.packet_collector.specs.Collected.{IsInRow, has_in}
 use Rattle.call_model.specs.Numbers.{all_below}
 use Rattle.call_model.specs.Receiving.{ReceiverEntry, has_taken, is_complete}
@@ -15,7 +15,7 @@ use Rattle.call_model.specs.Store.{ViewTells}
 use Rattle.call_decoding.specs.Rules.{rules_of}
 use Rattle.receiver_end.specs.declared.kept.Kept.{Kept}
 use Rattle.receiver_end.specs.Decoding.{decoding}
-use Rattle.receiver_end.specs.State.{run_of, holds, Fits, Stands}
+use Rattle.receiver_end.specs.State.{run_of, slot_holds, Fits, Stands}
 use Rattle.receiver_end.proofs.Headers.{both}
 
 pub all_at : (n : ℕ) (f : ℕ → Bool) (k : ℕ) → all_below n f ≡ true → k < n → f k ≡ true
@@ -37,8 +37,9 @@ falls false e = refl
 
 pub unheld : (r : Kept) (past : List ReceiverEntry) (n : ℕ) (piece : Piece)
     → ViewTells (decoding r.params.format) (rules_of r.params) → Fits r → Stands r past
-    → IsInRow r.collector n → IsHeadOf r.params.format piece.head → none_in piece.head (has_in r.collector n) ≡ true
-    → holds r.params r.store n ≡ false
+    → IsInRow r.collector n → IsHeadOf r.params.format piece.head → none_in_head piece.head (has_in r.collector n)
+    ≡ true
+    → slot_holds r.params r.store n ≡ false
 unfolding is_complete
 unheld r past n piece view ok stands row head none =
     let low : r.played ≤ n = omega (arith, row.low, ok.collects.begins) in
@@ -53,7 +54,7 @@ unheld r past n piece view ok stands row head none =
     let missing : has_taken (run_of r.params past).taken n k ≡ false =
     sym (stands.taken n k (omega (arith, low, same), omega (arith, high, same)) inside)
     ∙ ap (has_in r.collector n) (sym first) ∙ free in
-    let slot : option_map_or (λ i. eqb i n) (number_in r.store (n % r.params.slots)) false
+    let slot : option_map_or (λ i. eqb i n) (slot_number r.store (n % r.params.slots)) false
     ≡ all_below (mbs_of r.params.format) (has_taken (run_of r.params past).taken n) =
     ap (λ (o : Option ℕ). option_map_or (λ i. eqb i n) o false)
     (stands.slots (n % r.params.slots) (mod-lt n (omega (arith, ok.params.slots_low))))

@@ -18,11 +18,11 @@ use Rattle.call_model.specs.Coding as call
 use Rattle.call_model.specs.Receiving.{Heard, HeaderDiffers, MissingReference, Repeat, Overlap, all_in, none_in}
 use Rattle.call_model.specs.Stands.{judged, fits_kept, reference_is_kept}
 use Rattle.call_decoding.specs.Rules.{rules_of}
-use Rattle.call_decoding.specs.Styles.{Style, header_of, header_from}
+use Rattle.call_decoding.specs.Styles.{Style, call_header_of, header_from}
 use Rattle.receiver_end.specs.declared.kept.Kept.{Kept}
 use Rattle.receiver_end.specs.Decoding.{decoding}
 use Rattle.receiver_end.specs.State.{Fits, seen}
-use Rattle.receiver_end.specs.Steps.{Spells, taking}
+use Rattle.receiver_end.specs.Steps.{IsPieceOf, taking}
 use Rattle.receiver_end.proofs.Headers.{fits, differs}
 use Rattle.receiver_end.proofs.Marked.{all_same}
 
@@ -31,10 +31,10 @@ chosen fitting there every none r n p =
     if not fitting then HeaderDiffers else if not there then MissingReference else if every then Repeat else if not
     none then Overlap else taking r n p
 
-module _ (whole : (h : Header) → header_from (header_of h) ≡ h) (r : Kept) (n : ℕ) (piece : Piece)
+module _ (whole : (h : Header) → header_from (call_header_of h) ≡ h) (r : Kept) (n : ℕ) (piece : Piece)
     (p : call.Piece Style Mb) (ok : Fits r)
     (low : r.played ≤ n) (high : n ≤ r.played + r.params.lead) (head : IsHeadOf r.params.format piece.head)
-    (spells : Spells piece p) where
+    (spells : IsPieceOf piece p) where
   abbrev the_header : Bool
   the_header = fits_kept (decoding r.params.format) ((seen r).header n) p.header
 
@@ -53,19 +53,19 @@ module _ (whole : (h : Header) → header_from (header_of h) ≡ h) (r : Kept) (
     high = omega (arith, high, ok.collects.begins, ok.row);
   }
 
-  marked : (k : ℕ) → k < mbs_of r.params.format → has_in r.collector n k ≡ kept.has_taken ok.taken n k
+  marked : (k : ℕ) → k < mbs_of r.params.format → has_in r.collector n k ≡ kept.is_mb_taken ok.taken n k
   marked k lt = ok.collects.marks n k in_row (subst (λ (f : Format). k < mbs_of f) (sym ok.collected) lt)
 
   at : (i : ℕ) → i < piece.head.count → has_in r.collector n (p.slice.first + i)
-      ≡ kept.has_taken ok.taken n (piece.head.first + i)
+      ≡ kept.is_mb_taken ok.taken n (piece.head.first + i)
   at i lt = ap (λ (k : ℕ). has_in r.collector n (k + i)) spells.first
       ∙ marked (piece.head.first + i) (omega (arith, lt, head.within))
 
-  every_is : all_in p.slice ((seen r).has n) ≡ kept.all_in piece.head (kept.has_taken ok.taken n)
+  every_is : all_in p.slice ((seen r).has n) ≡ kept.all_in_head piece.head (kept.is_mb_taken ok.taken n)
   every_is = ap (λ (k : ℕ). all_below k (λ i. has_in r.collector n (p.slice.first + i))) spells.count
       ∙ all_same piece.head.count _ _ at
 
-  none_is : none_in p.slice ((seen r).has n) ≡ kept.none_in piece.head (kept.has_taken ok.taken n)
+  none_is : none_in p.slice ((seen r).has n) ≡ kept.none_in_head piece.head (kept.is_mb_taken ok.taken n)
   none_is = ap (λ (k : ℕ). all_below k (λ i. not (has_in r.collector n (p.slice.first + i)))) spells.count
       ∙ all_same piece.head.count _ _ (λ i lt. ap not (at i lt))
 

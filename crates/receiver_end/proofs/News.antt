@@ -8,16 +8,16 @@ use Rattle.h263_types.specs.declared.params.Params.{Params}
 use Rattle.h263_types.specs.Params.{IsParams}
 use Rattle.h263_types.specs.Sizes.{mbs_of}
 use Rattle.h263_planes.specs.Spots.{picture_by}
-use Rattle.picture_store.specs.Pictures.{Pictures, slots_of, works_of, work_in, IsEmpty}
+use Rattle.picture_store.specs.Pictures.{StoredPictures, slots_of, works_of, work_in, IsEmpty}
 use Rattle.packet_collector.specs.declared.collector.Collector.{Collector}
-use Rattle.packet_collector.specs.Taken.{has_any}
+use Rattle.packet_collector.specs.Taken.{is_any_taken}
 use Rattle.packet_collector.specs.Collected.{Collects, IsInRow, row_of, format_of, header_in}
 use Rattle.call_model.specs.Coding.{Rules, Header, Decoding, grey}
 use Rattle.call_model.specs.Lawful.{IsDecoding}
 use Rattle.call_model.specs.Stands.{Receiver, ReceiverStands, fits_kept}
 use Rattle.call_model.specs.ReceiverStanding.{NewReceiverStands, PlayStands, picture_by_kept}
 use Rattle.call_decoding.specs.Rules.{rules_of}
-use Rattle.call_decoding.specs.Styles.{header_of}
+use Rattle.call_decoding.specs.Styles.{call_header_of}
 use Rattle.receiver_end.specs.declared.kept.Kept.{Kept}
 use Rattle.receiver_end.specs.Decoding.{decoding}
 use Rattle.receiver_end.specs.State.{Fits, Stands, last_work, plays_alone, seen}
@@ -32,8 +32,8 @@ none_in zero k = refl
 none_in (suc n) zero = refl
 none_in (suc n) (suc k) = none_in n k
 
-nothing : (n : ℕ) → has_any [] n ≡ false
-unfolding has_any
+nothing : (n : ℕ) → is_any_taken [] n ≡ false
+unfolding is_any_taken
 nothing n = refl
 
 low : (n k m : ℕ) → n ≡ k → k ≤ m → n ≤ m
@@ -108,13 +108,13 @@ module _ {Style Mb Picture Fault : Type 0} (decoding : Decoding Style Mb Picture
 
 -- ---- what is kept
 
-module _ (p : Params) (old : Pictures) (slots : slots_of old ≡ p.slots) (many : length old.pictures
+module _ (p : Params) (old : StoredPictures) (slots : slots_of old ≡ p.slots) (many : length old.pictures
     ≡ p.slots + (p.lead + 2)) where
   works_are : works_of old ≡ p.lead + 2
   works_are = omega (arith, slots, many)
 
   -- a receiver's store that keeps no picture any more is one as at its start
-  pub emptied : (new : Pictures) → old.format ≡ p.format → IsEmpty old.format (slots_of old) (works_of old) new
+  pub emptied : (new : StoredPictures) → old.format ≡ p.format → IsEmpty old.format (slots_of old) (works_of old) new
       → IsEmpty p.format p.slots (p.lead + 2) new
   emptied new format empty =
       subst (λ (f : Format). IsEmpty f p.slots (p.lead + 2) new) format
@@ -122,7 +122,7 @@ module _ (p : Params) (old : Pictures) (slots : slots_of old ≡ p.slots) (many 
       (subst (λ (w : ℕ). IsEmpty old.format (slots_of old) w new) works_are empty))
 
 -- the work picture on the screen is one of such a store
-pub last_inside : (p : Params) (n : ℕ) (s : Pictures) → IsEmpty p.format p.slots (p.lead + 2) s
+pub last_inside : (p : Params) (n : ℕ) (s : StoredPictures) → IsEmpty p.format p.slots (p.lead + 2) s
     → last_work p n < works_of s
 last_inside p n s empty =
     let slots : length s.numbers ≡ p.slots = ap (λ (l : List (Option ℕ)). length l) empty.numbers
@@ -130,7 +130,7 @@ last_inside p n s empty =
     let below : last_work p n < p.lead + 2 = mod-lt (n + p.lead + 1) (omega arith) in
     omega (arith, below, slots, empty.pictures)
 
-module _ (p : Params) (is : IsParams p) (n : ℕ) (c : Collector) (s t : Pictures)
+module _ (p : Params) (is : IsParams p) (n : ℕ) (c : Collector) (s t : StoredPictures)
     (empty : IsEmpty p.format p.slots (p.lead + 2) s) (same : IsSameBut s t (last_work p n))
     (collects : Collects c n []) (many : row_of c ≡ p.lead + 1) (format : format_of c ≡ p.format) where
   abbrev new_at : Kept
@@ -147,7 +147,7 @@ module _ (p : Params) (is : IsParams p) (n : ℕ) (c : Collector) (s t : Picture
       → work_in t (last_work p n) ≡ picture_by p.format (λ s. 128) → Stands new_at (plays_alone n)
   is_alone lawful law_new law_play grey_there =
       stands_alone (decoding p.format) (rules_of p) lawful law_new law_play n (seen new_at) refl grey_there
-      (λ m low high. ap (option_map header_of) (kept_none [] m (header_in c m) (nothing m)
+      (λ m low high. ap (option_map call_header_of) (kept_none [] m (header_in c m) (nothing m)
       (collects.headers m (row m low high))))
       (λ m k low high lt. collects.marks m k (row m low high) (subst (λ (f : Format). k < mbs_of f) (sym format) lt)
       ∙ untaken [] m k (nothing m))

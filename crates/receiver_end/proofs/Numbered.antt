@@ -17,7 +17,7 @@ use Rattle.call_decoding.specs.Styles.{Style}
 use Rattle.receiver_end.specs.declared.kept.Kept.{Kept}
 use Rattle.receiver_end.specs.Decoding.{decoding}
 use Rattle.receiver_end.specs.State.{seen}
-use Rattle.receiver_end.specs.Steps.{Spells}
+use Rattle.receiver_end.specs.Steps.{IsPieceOf}
 
 apart : (a b : ℕ) → a ≡ 128 → b ≡ 512 → a ≡ b → ⊥
 apart a b p q e = omega (arith, p, q, e)
@@ -28,7 +28,7 @@ halves Custom Custom e = refl
 halves Standard Custom e = absurd (apart (half_of Standard) (half_of Custom) refl refl e)
 halves Custom Standard e = absurd (apart (half_of Standard) (half_of Custom) refl refl (sym e))
 
-module _ (r : Kept) (piece : Piece) (p : call.Piece Style Mb) (spells : Spells piece p) where
+module _ (r : Kept) (piece : Piece) (p : call.Piece Style Mb) (spells : IsPieceOf piece p) where
   abbrev Answers : Heard Fault → Type 0
   Answers h = heard_by_kept (decoding r.params.format) (rules_of r.params) (seen r) (Ok p) ≡ h
 

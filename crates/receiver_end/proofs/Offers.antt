@@ -6,13 +6,14 @@ use Rattle.call_model.specs.ReceiverStanding.{offer_by_kept}
 use Rattle.call_decoding.specs.Rules.{rules_of}
 use Rattle.receiver_end.specs.declared.kept.Kept.{Kept}
 use Rattle.receiver_end.specs.Decoding.{decoding}
-use Rattle.receiver_end.specs.State.{holds, seen}
+use Rattle.receiver_end.specs.State.{slot_holds, seen}
 
-pub offers : GreatestIs → (r : Kept) (m : ℕ) → holds r.params r.store m ≡ true → r.played < m + r.params.slots
+pub offers : GreatestIs → (r : Kept) (m : ℕ) → slot_holds r.params r.store m ≡ true → r.played < m + r.params.slots
     → m < r.played + r.params.lead + 1
-    → ((k : ℕ) → m < k → k < r.played + r.params.lead + 1 → holds r.params r.store k ≡ false)
+    → ((k : ℕ) → m < k → k < r.played + r.params.lead + 1 → slot_holds r.params r.store k ≡ false)
     → Some m ≡ offer_by_kept (decoding r.params.format) (rules_of r.params) (seen r)
 offers greatest r m held near below above =
-    sym ((greatest (λ k. holds r.params r.store k && ltb r.played (k + r.params.slots)) (r.played + r.params.lead + 1)
+    sym ((greatest (λ k. slot_holds r.params r.store k && ltb r.played (k + r.params.slots))
+    (r.played + r.params.lead + 1)
     m).1
     (and_from _ _ held (lt-ltb r.played (m + r.params.slots) near), below, λ k more lt. and_left _ _ (above k more lt)))

@@ -7,11 +7,11 @@ use Rattle.std.proofs.lemmas.Bool.{and_from, and_left, and_parts, eq-eqb, eqb-tr
 use Rattle.packet_collector.specs.Collected.{header_in}
 use Rattle.call_model.specs.Coding.{Decoding, Header, Rules, same_header, same_reference}
 use Rattle.call_model.specs.Lawful.{IsDecoding}
-use Rattle.call_model.specs.Receiving.{ReceiverEntry, TakenSlice, header_fits, reference_in}
+use Rattle.call_model.specs.Receiving.{ReceiverEntry, TakenSlice, header_fits, header_reference}
 use Rattle.call_model.specs.Sending.{nearest_below}
 use Rattle.call_model.specs.Stands.{fits_kept}
 use Rattle.call_decoding.specs.Rules.{rules_of}
-use Rattle.call_decoding.specs.Styles.{header_of}
+use Rattle.call_decoding.specs.Styles.{call_header_of}
 use Rattle.receiver_end.specs.declared.kept.Kept.{Kept}
 use Rattle.receiver_end.specs.Decoding.{decoding}
 use Rattle.receiver_end.specs.State.{Stands, header_taken, reference_after, reference_kept, run_of}
@@ -89,13 +89,14 @@ module _ {Style Mb Picture Fault : Type 0} (codec : Decoding Style Mb Picture Fa
   -- a kept header, which fits as what was taken does, names the same reference
   pub same_name : (ts : List (TakenSlice Style Mb)) (n : ℕ) (kept : Option (Header Style))
       → ((h : Header Style) → header_fits codec rules ts n h ≡ fits_kept codec kept h)
-      → option_and_then (reference_in codec rules n) kept
-      ≡ option_and_then (reference_in codec rules n) (header_taken ts n)
+      → option_and_then (header_reference codec rules n) kept
+      ≡ option_and_then (header_reference codec rules n) (header_taken ts n)
   same_name ts n kept each = go kept (header_taken ts n) refl each
     where
       go : (kept first : Option (Header Style)) → header_taken ts n ≡ first
           → ((h : Header Style) → header_fits codec rules ts n h ≡ fits_kept codec kept h)
-          → option_and_then (reference_in codec rules n) kept ≡ option_and_then (reference_in codec rules n) first
+          → option_and_then (header_reference codec rules n) kept
+          ≡ option_and_then (header_reference codec rules n) first
       go None None is each = refl
       go None (Some first) is each =
           absurd (false≢true (sym (not_same first)
@@ -115,6 +116,6 @@ reference_is r past lawful stands =
     let codec = decoding r.params.format in
     let rules = rules_of r.params in
     let same : r.played ≡ run.played = stands.played in
-    same_name codec rules lawful run.taken r.played (option_map header_of (header_in r.collector r.played))
+    same_name codec rules lawful run.taken r.played (option_map call_header_of (header_in r.collector r.played))
     (λ h. stands.headers r.played (omega (arith, same), omega (arith, same)) h)
-    ∙ ap (λ (n : ℕ). option_and_then (reference_in codec rules n) (header_taken run.taken n)) same
+    ∙ ap (λ (n : ℕ). option_and_then (header_reference codec rules n) (header_taken run.taken n)) same

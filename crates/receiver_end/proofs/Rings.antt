@@ -3,7 +3,7 @@ use Rattle.std.proofs.Common.{◌≡◌, ℕ, ◌+◌, ◌%◌, ◌<◌, ◌≤�
 use Rattle.std.proofs.lemmas.Bool.{cases_lt}
 use Rattle.std.proofs.lemmas.List.{get_or-set_other}
 use Rattle.call_model.specs.Numbers.{OneRestIsFar}
-use Rattle.picture_store.specs.Pictures.{Pictures, slots_of, slot_of, IsKept}
+use Rattle.picture_store.specs.Pictures.{StoredPictures, slots_of, slot_of, IsKept}
 
 module _ (far : OneRestIsFar) where
   -- numbers less than a period apart have different rests
@@ -18,7 +18,7 @@ module _ (far : OneRestIsFar) where
   ]
 
   -- another number is kept, and an earlier one stays
-  pub kept_stays : (s t : Pictures) (n m : ℕ) → t.numbers ≡ set s.numbers (slot_of s n) (Some n) → m < n
+  pub kept_stays : (s t : StoredPictures) (n m : ℕ) → t.numbers ≡ set s.numbers (slot_of s n) (Some n) → m < n
       → n < m + slots_of s → IsKept s m → IsKept t m
   kept_stays s t n m e less near kept =
       let xs = s.numbers in

@@ -2,7 +2,7 @@
 use Rattle.std.proofs.Common.{◌≡◌, ℕ, false, List, ◌∷◌, Option, Result, Ok, Err, refl, ap, sym, ◌∙◌, subst}
 use Rattle.h263_bits.specs.declared.fault.Fault.{Fault}
 use Rattle.h263_types.specs.declared.blocks.Mb.{Mb}
-use Rattle.packet_collector.specs.Packet.{Slice, packet_at}
+use Rattle.packet_collector.specs.Packet.{PacketSlice, packet_at}
 use Rattle.call_model.specs.Coding as call
 use Rattle.call_model.specs.Receiving as runs
 use Rattle.call_model.specs.ReceiverStanding.{HeardByKept, OtherPacketStands, PlayByKept, heard_by_kept, is_taking, mark_by_kept, message_by_kept}
@@ -37,7 +37,7 @@ module _ (r : Kept) (past : List runs.ReceiverEntry) (stands : Stands r past) wh
       (rules_of r.params) (run_of r.params past) ((decoding r.params.format).read bytes))
   heard_err bytes fault read =
       subst (IsHeard r.params.clock (heards.Refused (faults.Bytes fault)))
-      (sym (ap (λ (x : Result Slice Fault). runs.heard (decoding r.params.format) (rules_of r.params)
+      (sym (ap (λ (x : Result PacketSlice Fault). runs.heard (decoding r.params.format) (rules_of r.params)
       (run_of r.params past) (with_piece x)) read ∙ refused fault)) refl
 
   untaken : (fault : Fault)
@@ -49,7 +49,7 @@ module _ (r : Kept) (past : List runs.ReceiverEntry) (stands : Stands r past) wh
       → packet_at r.params.format bytes ≡ Err fault → Stands r (runs.Packet bytes ∷ past)
   stays_err law bytes fault read =
       law (seen r) past bytes stands
-      (ap (λ (x : Result Slice Fault). is_taking (heard_by_kept (decoding r.params.format) (rules_of r.params)
+      (ap (λ (x : Result PacketSlice Fault). is_taking (heard_by_kept (decoding r.params.format) (rules_of r.params)
       (seen r) (with_piece x))) read ∙ untaken fault)
 
   pub played_so : PlayByKept (decoding r.params.format) (rules_of r.params) → (played : Played)

@@ -10,22 +10,22 @@ use Rattle.call_model.specs.Coding as call
 use Rattle.call_model.specs.Receiving.{nack}
 use Rattle.call_model.specs.ReceiverStanding.{mark_by_kept, message_by_kept, offer_by_kept}
 use Rattle.call_decoding.specs.Rules.{rules_of}
-use Rattle.call_decoding.specs.Styles.{header_of}
+use Rattle.call_decoding.specs.Styles.{call_header_of}
 use Rattle.receiver_end.specs.declared.kept.Kept.{Kept}
-use Rattle.receiver_end.specs.Answers.{mark_of}
+use Rattle.receiver_end.specs.Answers.{mark_from}
 use Rattle.receiver_end.specs.Decoding.{decoding}
-use Rattle.receiver_end.specs.State.{holds, seen}
+use Rattle.receiver_end.specs.State.{slot_holds, seen}
 
-module _ (r : Kept) (b : Bool) (held : holds r.params r.store r.played ≡ b) where
+module _ (r : Kept) (b : Bool) (held : slot_holds r.params r.store r.played ≡ b) where
   abbrev the_mark : Bool → call.Mark
   the_mark b = if b then call.Exact else if is_some
-      (option_map header_of (header_in r.collector r.played)) then call.Patched else call.Held
+      (option_map call_header_of (header_in r.collector r.played)) then call.Patched else call.Held
 
   abbrev the_message : Bool → Option call.Message
   the_message b =
       if b then None
       else Some (nack (rules_of r.params) r.played (offer_by_kept (decoding r.params.format) (rules_of r.params)
-      (seen r)) (flags_of (call.Rules.flags (rules_of r.params)) (holds r.params r.store) r.played))
+      (seen r)) (flags_of (call.Rules.flags (rules_of r.params)) (slot_holds r.params r.store) r.played))
 
   pub mark_is : mark_by_kept (decoding r.params.format) (rules_of r.params) (seen r) ≡ the_mark b
   unfolding mark_by_kept
@@ -36,6 +36,6 @@ module _ (r : Kept) (b : Bool) (held : holds r.params r.store r.played ≡ b) wh
   message_is = ap the_message held
 
 pub part_is : (o : Option Header) → (if is_some o then marks.Patched else marks.Held)
-    ≡ mark_of (if is_some (option_map header_of o) then call.Patched else call.Held)
+    ≡ mark_from (if is_some (option_map call_header_of o) then call.Patched else call.Held)
 part_is None = refl
 part_is (Some h) = refl

@@ -8,19 +8,19 @@ use Rattle.h263_types.specs.declared.blocks.Mb.{Mb}
 use Rattle.h263_planes.specs.Layout.{picture_of}
 use Rattle.h263_planes.specs.Picture.{Picture}
 use Rattle.packet_collector.specs.declared.piece.Piece.{Piece}
-use Rattle.picture_store.specs.Pictures.{Pictures, slots_of, works_of, work_in, with_work}
-use Rattle.receiver_end.specs.Steps.{IsSameBut, SetsSlice, Patches}
+use Rattle.picture_store.specs.Pictures.{StoredPictures, slots_of, works_of, work_in, with_work}
+use Rattle.receiver_end.specs.Steps.{IsSameBut, SetsPiece, Patches}
 
-abbrev with_bytes : Pictures → ℕ → List ℕ → Pictures
+abbrev with_bytes : StoredPictures → ℕ → List ℕ → StoredPictures
 with_bytes s w bytes = record s { pictures = set s.pictures (slots_of s + w) (picture_of s.format bytes) }
 
-written : (s : Pictures) (w : ℕ) (bytes : List ℕ) → length bytes ≡ size_of_picture s.format
+written : (s : StoredPictures) (w : ℕ) (bytes : List ℕ) → length bytes ≡ size_of_picture s.format
     → with_work s w bytes ≡ with_bytes s w bytes
 written s w bytes long = rw (eq-eqb (length bytes) (size_of_picture s.format) long) refl
 
-pub same_but : (s : Pictures) (w : ℕ) (bytes : List ℕ) → length bytes ≡ size_of_picture s.format
+pub same_but : (s : StoredPictures) (w : ℕ) (bytes : List ℕ) → length bytes ≡ size_of_picture s.format
     → IsSameBut s (with_work s w bytes) w
-same_but s w bytes long = subst (λ (t : Pictures). IsSameBut s t w) (sym (written s w bytes long)) (record {
+same_but s w bytes long = subst (λ (t : StoredPictures). IsSameBut s t w) (sym (written s w bytes long)) (record {
   format = refl;
   numbers = refl;
   many = length-set s.pictures (slots_of s + w) (picture_of s.format bytes);
@@ -29,13 +29,13 @@ same_but s w bytes long = subst (λ (t : Pictures). IsSameBut s t w) (sym (writt
       (picture_of s.format []) other;
 })
 
-pub work_is : (s : Pictures) (w : ℕ) (bytes : List ℕ) → w < works_of s → length bytes ≡ size_of_picture s.format
+pub work_is : (s : StoredPictures) (w : ℕ) (bytes : List ℕ) → w < works_of s → length bytes ≡ size_of_picture s.format
     → work_in (with_work s w bytes) w ≡ picture_of s.format bytes
-work_is s w bytes inside long = ap (λ (t : Pictures). work_in t w) (written s w bytes long)
+work_is s w bytes inside long = ap (λ (t : StoredPictures). work_in t w) (written s w bytes long)
     ∙ get_or-set_same s.pictures (slots_of s + w) (picture_of s.format bytes) (picture_of s.format [])
     (omega (arith, inside))
 
-module _ (f : Format) (s : Pictures) (bytes : List ℕ) (w : ℕ) (same : f ≡ s.format) (inside : w < works_of s)
+module _ (f : Format) (s : StoredPictures) (bytes : List ℕ) (w : ℕ) (same : f ≡ s.format) (inside : w < works_of s)
     (long : length bytes ≡ size_of_picture f) where
   pub new_is : picture_of f bytes ≡ work_in (with_work s w bytes) w
   new_is = ap (λ (k : Format). picture_of k bytes) same
@@ -44,13 +44,13 @@ module _ (f : Format) (s : Pictures) (bytes : List ℕ) (w : ℕ) (same : f ≡ 
   -- a slice drawn into the bytes that a work picture is given is drawn into that picture
   pub sets_kept : (mbs : List Mb) (piece : Piece) (reference kept : Option Picture) (before : List ℕ)
       → reference ≡ kept → picture_of s.format before ≡ work_in s w
-      → SetsSlice f mbs piece reference (picture_of f before) (picture_of f bytes)
-      → SetsSlice f mbs piece kept (work_in s w) (work_in (with_work s w bytes) w)
+      → SetsPiece f mbs piece reference (picture_of f before) (picture_of f bytes)
+      → SetsPiece f mbs piece kept (work_in s w) (work_in (with_work s w bytes) w)
   sets_kept mbs piece reference kept before seen old sets =
       let e : picture_of f before ≡ work_in s w = ap (λ (k : Format). picture_of k before) same ∙ old in
-      subst (λ (p : Picture). SetsSlice f mbs piece kept (work_in s w) p) new_is
-      (subst (λ (p : Picture). SetsSlice f mbs piece kept p (picture_of f bytes)) e
-      (subst (λ (r : Option Picture). SetsSlice f mbs piece r (picture_of f before) (picture_of f bytes)) seen sets))
+      subst (λ (p : Picture). SetsPiece f mbs piece kept (work_in s w) p) new_is
+      (subst (λ (p : Picture). SetsPiece f mbs piece kept p (picture_of f bytes)) e
+      (subst (λ (r : Option Picture). SetsPiece f mbs piece r (picture_of f before) (picture_of f bytes)) seen sets))
 
   -- a patch of the bytes that a work picture is given is a patch of that picture
   pub patched_kept : (test : ℕ → Bool) (screen before : List ℕ) (q : Picture) → picture_of s.format screen ≡ q

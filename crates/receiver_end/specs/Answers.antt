@@ -6,7 +6,7 @@ use Rattle.h263_types.specs.declared.Mark.TheVariants as marks
 use Rattle.h263_types.specs.declared.clock.Clock.{Clock}
 use Rattle.back_messages.specs.declared.message.Message.{Message}
 use Rattle.back_messages.specs.declared.writing.Said.{Said}
-use Rattle.back_messages.specs.Said.{text_of, IsFilled}
+use Rattle.back_messages.specs.Said.{text_of_said, IsFilled}
 use Rattle.back_messages.specs.Text.{message_in}
 use Rattle.reference_selector.specs.Messages.{message_of}
 use Rattle.call_model.specs.Coding as call
@@ -19,7 +19,7 @@ use Rattle.receiver_end.specs.declared.answers.Played.{Played}
 -- the bytes of a message as it travels, which a sender by this clock reads
 pub record IsSaid (clock : Clock) (said : Said) (message : call.Message) : Type 0 where
   pub written : Message
-  pub read : message_in clock (text_of said) ≡ Ok written
+  pub read : message_in clock (text_of_said said) ≡ Ok written
   pub means : message_of written ≡ message
   pub filled : IsFilled said
 
@@ -43,9 +43,9 @@ said_by (runs.Completed message) = Some message
 said_by _ = None
 
 -- the same, in bytes
-abbrev pub said_in : Heard → Option Said
-said_in (heards.Completed said) = Some said
-said_in _ = None
+abbrev pub said_in_answer : Heard → Option Said
+said_in_answer (heards.Completed said) = Some said
+said_in_answer _ = None
 
 -- the answer takes the packet: each other one leaves the receiver exactly as it was
 abbrev pub takes : Heard → Bool
@@ -53,16 +53,16 @@ takes heards.Taken = true
 takes (heards.Completed said) = true
 takes _ = false
 
-abbrev pub mark_of : call.Mark → Mark
-mark_of call.Exact = marks.Exact
-mark_of call.Patched = marks.Patched
-mark_of call.Held = marks.Held
+abbrev pub mark_from : call.Mark → Mark
+mark_from call.Exact = marks.Exact
+mark_from call.Patched = marks.Patched
+mark_from call.Held = marks.Held
 
-abbrev pub IsMessage : Clock → Option Said → Option call.Message → Type 0
-IsMessage clock o None = o ≡ None
-IsMessage clock o (Some message) = (said : Said) × (o ≡ Some said) × IsSaid clock said message
+abbrev pub SaysMessage : Clock → Option Said → Option call.Message → Type 0
+SaysMessage clock o None = o ≡ None
+SaysMessage clock o (Some message) = (said : Said) × (o ≡ Some said) × IsSaid clock said message
 
 -- a play has this mark and says this message
 pub record IsPlayed (clock : Clock) (played : Played) (mark : call.Mark) (message : Option call.Message) : Type 0 where
-  pub mark_is : played.mark ≡ mark_of mark
-  pub message_is : IsMessage clock played.message message
+  pub mark_is : played.mark ≡ mark_from mark
+  pub message_is : SaysMessage clock played.message message

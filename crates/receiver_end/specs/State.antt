@@ -7,22 +7,22 @@ use Rattle.h263_types.specs.declared.blocks.Mb.{Mb}
 use Rattle.h263_types.specs.declared.params.Params.{Params}
 use Rattle.h263_types.specs.Params.{IsParams}
 use Rattle.h263_planes.specs.Picture.{Picture}
-use Rattle.picture_store.specs.Pictures.{Pictures, slots_of, number_in, picture_in, work_in, IsKept}
+use Rattle.picture_store.specs.Pictures.{StoredPictures, slots_of, slot_number, picture_in, work_in, IsKept}
 use Rattle.packet_collector.specs.Collected.{Collects, row_of, format_of, header_in, has_in}
 use Rattle.packet_collector.specs.Taken.{Taken}
 use Rattle.call_model.specs.Coding.{Header, Mark, Message}
-use Rattle.call_model.specs.Receiving.{ReceiverRun, ReceiverEntry, PlayNext, Heard, TakenSlice, heard, piece_number, played_mark, played_message, receiver_run, reference_in}
+use Rattle.call_model.specs.Receiving.{ReceiverRun, ReceiverEntry, PlayNext, Heard, TakenSlice, heard, piece_number, played_mark, played_message, receiver_run, header_reference}
 use Rattle.call_model.specs.Stands.{Receiver, ReceiverStands}
 use Rattle.call_decoding.specs.Rules.{rules_of}
-use Rattle.call_decoding.specs.Styles.{Style, header_of}
+use Rattle.call_decoding.specs.Styles.{Style, call_header_of}
 use Rattle.receiver_end.specs.declared.kept.Kept.{Kept}
 use Rattle.receiver_end.specs.Decoding.{decoding}
 
-abbrev pub Run : Type 0
-Run = ReceiverRun Style Mb Picture
+abbrev pub ReceivedRun : Type 0
+ReceivedRun = ReceiverRun Style Mb Picture
 
 -- the run with these parameters after a list of entries, the newest first
-abbrev pub run_of : Params → List ReceiverEntry → Run
+abbrev pub run_of : Params → List ReceiverEntry → ReceivedRun
 run_of p past = receiver_run (decoding p.format) (rules_of p) past
 
 -- The work picture of an open number. There is one for each open number and for the one that was
@@ -35,15 +35,15 @@ abbrev pub last_work : Params → ℕ → ℕ
 last_work p played = (played + p.lead + 1) % (p.lead + 2)
 
 -- the slot of picture n has that number
-abbrev pub holds : Params → Pictures → ℕ → Bool
-holds p s n = option_map_or (λ k. k == n) (number_in s (n % p.slots)) false
+abbrev pub slot_holds : Params → StoredPictures → ℕ → Bool
+slot_holds p s n = option_map_or (λ k. k == n) (slot_number s (n % p.slots)) false
 
 -- the picture of an open number: in its slot once it is complete, else at work
-abbrev pub picture_at : Params → Pictures → ℕ → Picture
-picture_at p s n = if holds p s n then picture_in s (n % p.slots) else work_in s (work_of p n)
+abbrev pub open_picture : Params → StoredPictures → ℕ → Picture
+open_picture p s n = if slot_holds p s n then picture_in s (n % p.slots) else work_in s (work_of p n)
 
 -- the picture on the screen: one that is kept, or a work picture
-abbrev pub screen_in : Params → Pictures → Bool → ℕ → Picture
+abbrev pub screen_in : Params → StoredPictures → Bool → ℕ → Picture
 screen_in p s true played = picture_in s ((played - 1) % p.slots)
 screen_in p s false played = work_in s (last_work p played)
 
@@ -73,10 +73,10 @@ seen r =
     record {
       played = r.played;
       screen = screen_in r.params r.store r.exact r.played;
-      header = λ n. option_map header_of (header_in r.collector n);
+      header = λ n. option_map call_header_of (header_in r.collector n);
       has = λ n k. has_in r.collector n k;
-      work = λ n. picture_at r.params r.store n;
-      kept = λ rest. number_in r.store rest;
+      work = λ n. open_picture r.params r.store n;
+      kept = λ rest. slot_number r.store rest;
       picture = λ rest. picture_in r.store rest;
     }
 
@@ -108,14 +108,14 @@ header_taken (t ∷ ts) n = if t.number == n then Some t.piece.header else heade
 abbrev pub reference_after : Params → List ReceiverEntry → Option ℕ
 reference_after p past =
     let run = run_of p past in
-    option_and_then (reference_in (decoding p.format) (rules_of p) run.played)
+    option_and_then (header_reference (decoding p.format) (rules_of p) run.played)
     (header_taken run.taken run.played)
 
 -- the same, by the header that is kept
 abbrev pub reference_kept : Kept → Option ℕ
 reference_kept r =
-    option_and_then (reference_in (decoding r.params.format) (rules_of r.params) r.played)
-    (option_map header_of (header_in r.collector r.played))
+    option_and_then (header_reference (decoding r.params.format) (rules_of r.params) r.played)
+    (option_map call_header_of (header_in r.collector r.played))
 
 -- the receiver stands for this list of entries, the newest first
 abbrev pub Stands : Kept → List ReceiverEntry → Type 0

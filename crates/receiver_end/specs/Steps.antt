@@ -13,12 +13,12 @@ use Rattle.h263_planes.specs.Picture.{Picture}
 use Rattle.h263_planes.specs.Blocks.{mb_of}
 use Rattle.h263_planes.specs.Samples.{Inside, IsPicture, sample_at}
 use Rattle.picture_recon.specs.Samples.{sample_in}
-use Rattle.picture_store.specs.Pictures.{Pictures, slots_of, slot_of, picture_in, work_in, IsKept, Keeps}
+use Rattle.picture_store.specs.Pictures.{StoredPictures, slots_of, slot_of, picture_in, work_in, IsKept, Keeps}
 use Rattle.packet_collector.specs.declared.collector.Collector.{Collector}
 use Rattle.packet_collector.specs.declared.piece.Piece.{Piece}
 use Rattle.packet_collector.specs.Collected.{Collects, IsInRow, IsFreshIn, header_in, has_in}
 use Rattle.packet_collector.specs.Taken.{Taken}
-use Rattle.packet_collector.specs.Taken.{holds as has_piece}
+use Rattle.packet_collector.specs.Taken.{head_holds as has_piece}
 use Rattle.packet_collector.specs.Filled.{slice_in}
 use Rattle.call_model.specs.Coding as call
 use Rattle.call_model.specs.Numbers.{flags_of}
@@ -26,19 +26,19 @@ use Rattle.call_model.specs.Receiving as runs
 use Rattle.call_model.specs.Sending.{nearest, nearest_below}
 use Rattle.call_model.specs.ReceiverStanding.{completes}
 use Rattle.call_decoding.specs.Rules.{rules_of}
-use Rattle.call_decoding.specs.Styles.{Style, header_of}
+use Rattle.call_decoding.specs.Styles.{Style, call_header_of}
 use Rattle.receiver_end.specs.declared.kept.Kept.{Kept}
 use Rattle.receiver_end.specs.declared.judging.Fresh.{Fresh}
 use Rattle.receiver_end.specs.declared.answers.Heard.{Heard}
 use Rattle.receiver_end.specs.Decoding.{decoding, piece_of}
-use Rattle.receiver_end.specs.State.{holds, screen_in, seen, work_of}
+use Rattle.receiver_end.specs.State.{slot_holds, screen_in, seen, work_of}
 use Rattle.receiver_end.specs.Answers.{IsHeard, takes}
 
 -- ---- judging
 
 -- the piece of the call has this header and these macroblocks
-pub record Spells (piece : Piece) (p : call.Piece Style Mb) : Type 0 where
-  pub header : p.header ≡ header_of piece.header
+pub record IsPieceOf (piece : Piece) (p : call.Piece Style Mb) : Type 0 where
+  pub header : p.header ≡ call_header_of piece.header
   pub first : p.slice.first ≡ piece.head.first
   pub count : length p.slice.mbs ≡ piece.head.count
 
@@ -47,9 +47,9 @@ abbrev pub piece_in : Piece → List Mb → call.Piece Style Mb
 piece_in piece mbs = piece_of (slice_in piece mbs)
 
 -- the message that a receiver says of picture n where it is complete
-abbrev pub ack_of : Params → Pictures → ℕ → call.Message
+abbrev pub ack_of : Params → StoredPictures → ℕ → call.Message
 ack_of p s n =
-    call.Ack (n % call.period (rules_of p)) (flags_of (call.Rules.flags (rules_of p)) (holds p s) n)
+    call.Ack (n % call.period (rules_of p)) (flags_of (call.Rules.flags (rules_of p)) (slot_holds p s) n)
 
 -- the answer to a piece of picture n that is taken
 abbrev pub taking : Kept → ℕ → call.Piece Style Mb → runs.Heard Fault
@@ -72,8 +72,8 @@ pub record IsFreshOf (r : Kept) (n : ℕ) (piece : Piece) (f : Fresh) : Type 0 w
   pub named : IsReferenceOf r n piece.header.trp f.reference
 
 -- the same, of the picture that the slice is of
-abbrev pub IsFresh : Kept → Piece → Fresh → Type 0
-IsFresh r piece f =
+abbrev pub IsFreshPiece : Kept → Piece → Fresh → Type 0
+IsFreshPiece r piece f =
     (nearest (rules_of r.params) r.played piece.header.tr ≡ Some f.number)
     × IsFreshOf r f.number piece f
 
@@ -94,36 +94,37 @@ abbrev pub IsWholeOf : Format → Picture → Type 0
 IsWholeOf f p = (p.format ≡ f) × IsPicture p
 
 -- nothing but work picture w changed
-pub record IsSameBut (old new : Pictures) (w : ℕ) : Type 0 where
+pub record IsSameBut (old new : StoredPictures) (w : ℕ) : Type 0 where
   pub format : new.format ≡ old.format
   pub numbers : new.numbers ≡ old.numbers
   pub many : length new.pictures ≡ length old.pictures
   pub room : new.room ≡ old.room
   pub others : (k : ℕ) → (k ≡ slots_of old + w → ⊥) → picture_in new k ≡ picture_in old k
 
-abbrev pub picture_of_reference : Pictures → Option ℕ → Option Picture
+abbrev pub picture_of_reference : StoredPictures → Option ℕ → Option Picture
 picture_of_reference s None = None
 picture_of_reference s (Some m) = Some (picture_in s (slot_of s m))
 
 -- the samples of the slice's macroblocks are the reconstructed ones, and the others are as before
-abbrev pub SetsSlice : Format → List Mb → Piece → Option Picture → Picture → Picture → Type 0
-SetsSlice f mbs piece reference old new =
+abbrev pub SetsPiece : Format → List Mb → Piece → Option Picture → Picture → Picture → Type 0
+SetsPiece f mbs piece reference old new =
     (plane : Plane) (x y : ℕ) → Inside f plane x y 1 → sample_at new plane x y
     ≡ (if has_piece piece.head (mb_of f plane x y)
     then sample_in piece.header.rounding reference (mb_in mbs (mb_of f plane x y)) plane x y
     else sample_at old plane x y)
 
 -- a P picture's reference is kept, and an I picture has none
-abbrev pub HasItsReference : Pictures → Kind → Option ℕ → Type 0
+abbrev pub HasItsReference : StoredPictures → Kind → Option ℕ → Type 0
 HasItsReference s kind None = kind ≡ kinds.I
 HasItsReference s kind (Some m) = IsKept s m
 
 -- What a slice that is drawn and marked leaves in the collector and in the store. Its picture has
 -- its header and its macroblocks, and the samples of these; no other picture of the row changes.
-pub record IsDrawn (r : Kept) (c : Collector) (s : Pictures) (mbs : List Mb) (piece : Piece) (f : Fresh) : Type 0 where
+pub record IsDrawn (r : Kept) (c : Collector) (s : StoredPictures) (mbs : List Mb) (piece : Piece)
+    (f : Fresh) : Type 0 where
   pub store : IsSameBut r.store s (work_of r.params f.number)
   pub whole : IsWholeOf r.params.format (work_in s (work_of r.params f.number))
-  pub sets : SetsSlice r.params.format mbs piece (picture_of_reference r.store f.reference)
+  pub sets : SetsPiece r.params.format mbs piece (picture_of_reference r.store f.reference)
       (work_in r.store (work_of r.params f.number)) (work_in s (work_of r.params f.number))
   pub header : header_in c f.number ≡ Some piece.header
   pub has : (k : ℕ) → k < mbs_of r.params.format
@@ -157,21 +158,21 @@ pub record Counts (c : Collector) : Type 0 where
   pub collects : Collects c first taken
 
 -- what was taken of the next picture lies over the picture on the screen, in the work picture
-pub record IsOver (r : Kept) (s : Pictures) : Type 0 where
+pub record LiesOver (r : Kept) (s : StoredPictures) : Type 0 where
   pub store : IsSameBut r.store s (work_of r.params r.played)
   pub whole : IsWholeOf r.params.format (work_in s (work_of r.params r.played))
   pub patches : Patches r.params.format (has_in r.collector r.played) (screen_in r.params r.store r.exact r.played)
       (work_in r.store (work_of r.params r.played)) (work_in s (work_of r.params r.played))
 
 abbrev pub IsPatched : Kept → Kept → Type 0
-IsPatched old new = (new ≡ record old { store = new.store }) × IsOver old new.store
+IsPatched old new = (new ≡ record old { store = new.store }) × LiesOver old new.store
 
 -- the store is as it was where the next picture is kept, else its work picture is patched
-abbrev pub IsShownIn : Kept → Bool → Pictures → Type 0
+abbrev pub IsShownIn : Kept → Bool → StoredPictures → Type 0
 IsShownIn r true s = s ≡ r.store
-IsShownIn r false s = IsOver r s
+IsShownIn r false s = LiesOver r s
 
 abbrev pub IsShown : Kept → Kept → Type 0
 IsShown old new =
-    (new ≡ record old { exact = holds old.params old.store old.played; store = new.store })
-    × IsShownIn old (holds old.params old.store old.played) new.store
+    (new ≡ record old { exact = slot_holds old.params old.store old.played; store = new.store })
+    × IsShownIn old (slot_holds old.params old.store old.played) new.store

@@ -35,11 +35,11 @@ pub enum Heard {
 
 impl Heard {
     ghost use Rattle.std.specs.Prelude.{◌≡◌};
-    ghost use Rattle.receiver_end.specs.Answers.{said_in};
+    ghost use Rattle.receiver_end.specs.Answers.{said_in_answer};
 
     /// The message that it says: the acknowledgement of a picture that is complete.
     pub fn message(&self) -> Option<Said>
-        ensures { result ≡ said_in self.now }
+        ensures { result ≡ said_in_answer self.now }
     {
         match self {
             Heard::Completed(said) => Some(*said),

@@ -7,7 +7,7 @@ ghost use Rattle.h263_planes.specs.Lent.{picture};
 ghost use Rattle.h263_planes.specs.References.{HasReference};
 ghost use Rattle.picture_store.specs.Pictures.{work_in, works_of};
 ghost use Rattle.packet_collector.specs.Filled.{IsPieceIn};
-ghost use Rattle.receiver_end.specs.Steps.{HasItsReference, IsSameBut, IsWholeOf, SetsSlice};
+ghost use Rattle.receiver_end.specs.Steps.{HasItsReference, IsSameBut, IsWholeOf, SetsPiece};
 ghost use Rattle.receiver_end.specs.Steps.{picture_of_reference};
 
 use h263_planes::{PictureMut, PictureRef};
@@ -30,7 +30,7 @@ fn set_slice(
     requires bytes { length bytes.old ≡ size_of_picture format }
     ensures size { length bytes.new ≡ size_of_picture format }
     ensures whole { IsWholeOf format (picture_of format bytes.new) }
-    ensures sets { SetsSlice format mbs.now piece.now (option_map picture reference.entry)
+    ensures sets { SetsPiece format mbs.now piece.now (option_map picture reference.entry)
         (picture_of format bytes.old) (picture_of format bytes.new) }
 {
     let mut picture = PictureMut::new(format, bytes);
@@ -54,7 +54,7 @@ pub(crate) fn draw(
     requires kept { HasItsReference store.old piece.now.header.kind reference }
     ensures rest { IsSameBut store.old store.new w }
     ensures whole { IsWholeOf format (work_in store.new w) }
-    ensures sets { SetsSlice format mbs.now piece.now (picture_of_reference store.old reference)
+    ensures sets { SetsPiece format mbs.now piece.now (picture_of_reference store.old reference)
         (work_in store.old w) (work_in store.new w) }
 {
     match reference {

@@ -10,7 +10,7 @@ ghost use Rattle.call_model.specs.Sending.{nearest_below};
 ghost use Rattle.call_model.specs.ReceiverStanding.{heard_by_kept};
 ghost use Rattle.call_model.specs.Stands.{judged, reference_is_kept};
 ghost use Rattle.call_decoding.specs.Rules.{rules_of};
-ghost use Rattle.call_decoding.specs.Styles.{Style, header_of};
+ghost use Rattle.call_decoding.specs.Styles.{Style, call_header_of};
 ghost use Rattle.receiver_end.specs.declared.answers.Heard.TheVariants as heards;
 ghost use Rattle.receiver_end.specs.Decoding.{decoding};
 
@@ -44,8 +44,8 @@ fn refused(fault: PacketFault) -> Heard
 
 impl Kept {
     ghost use Rattle.receiver_end.specs.State.{Fits, seen};
-    ghost use Rattle.receiver_end.specs.Steps.{IsFresh, IsFreshOf, IsJudged, IsReferenceOf};
-    ghost use Rattle.receiver_end.specs.Steps.{IsUntaken, Spells};
+    ghost use Rattle.receiver_end.specs.Steps.{IsFreshPiece, IsFreshOf, IsJudged, IsReferenceOf};
+    ghost use Rattle.receiver_end.specs.Steps.{IsUntaken, IsPieceOf};
 
     // The picture below an open one that a TRP names, if there is one.
     fn named_below(&self, number: u32, rest: u16) -> Option<u32>
@@ -97,7 +97,7 @@ impl Kept {
         requires low { self.now.played ≤ number }
         requires high { number ≤ self.now.played + self.now.params.lead }
         requires head { IsHeadOf self.now.params.format piece.now.head }
-        ensures answer { (p : call.Piece Style Mb) → Spells piece.now p
+        ensures answer { (p : call.Piece Style Mb) → IsPieceOf piece.now p
             → IsJudged self.now result p (judged (decoding self.now.params.format)
             (rules_of self.now.params) (seen self.now) number p) }
         ensures fresh { IfOk result (IsFreshOf self.now number piece.now) }
@@ -119,7 +119,7 @@ impl Kept {
     /// other picture clock, and where that would be before picture 0.
     pub fn number_of(&self, piece: &Piece) -> Option<u32>
         requires { Fits self.now }
-        ensures { (p : call.Piece Style Mb) → p.header ≡ header_of piece.now.header
+        ensures { (p : call.Piece Style Mb) → p.header ≡ call_header_of piece.now.header
             → result ≡ piece_number (rules_of self.now.params) self.now.played p }
     {
         if !is_same_clock(piece.header.clock, self.params.clock) {
@@ -132,10 +132,10 @@ impl Kept {
     pub fn judge(&self, piece: &Piece) -> Result<Fresh, Heard>
         requires fits { Fits self.now }
         requires head { IsHeadOf self.now.params.format piece.now.head }
-        ensures answer { (p : call.Piece Style Mb) → Spells piece.now p
+        ensures answer { (p : call.Piece Style Mb) → IsPieceOf piece.now p
             → IsJudged self.now result p (heard_by_kept (decoding self.now.params.format)
             (rules_of self.now.params) (seen self.now) (Ok p)) }
-        ensures fresh { IfOk result (IsFresh self.now piece.now) }
+        ensures fresh { IfOk result (IsFreshPiece self.now piece.now) }
         ensures untaken { IsUntaken result }
     {
         if !is_same_clock(piece.header.clock, self.params.clock) {

@@ -46,7 +46,7 @@ impl Kept {
     ghost use Rattle.h263_planes.specs.Lent.{picture};
     ghost use Rattle.h263_planes.specs.Samples.{IsPicture};
     ghost use Rattle.picture_store.specs.Pictures.{slots_of};
-    ghost use Rattle.receiver_end.specs.State.{Fits, holds, screen_in};
+    ghost use Rattle.receiver_end.specs.State.{Fits, slot_holds, screen_in};
 
     /// The picture on the screen.
     pub fn screen(&self) -> PictureRef<'_>
@@ -79,7 +79,7 @@ impl Kept {
     /// Whether the slot of a picture has it.
     pub fn holds(&self, number: u32) -> bool
         requires { slots_of self.now.store ≡ self.now.params.slots }
-        ensures value { result ≡ holds self.now.params self.now.store number }
+        ensures value { result ≡ slot_holds self.now.params self.now.store number }
         ensures kept { (result ≡ true) ↔ IsKept self.now.store number }
     {
         is_there(&self.store, number)

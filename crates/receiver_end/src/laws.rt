@@ -9,7 +9,7 @@ ghost use Rattle.call_model.specs.Order.{AnyOrder};
 ghost use Rattle.call_model.specs.Receiving as runs;
 ghost use Rattle.call_decoding.specs.Rules.{rules_of};
 ghost use Rattle.receiver_end.specs.declared.answers.Heard.{Heard};
-ghost use Rattle.receiver_end.specs.Answers.{IsHeard, IsMessage, said_by, said_in};
+ghost use Rattle.receiver_end.specs.Answers.{IsHeard, SaysMessage, said_by, said_in_answer};
 ghost use Rattle.receiver_end.specs.Decoding.{decoding};
 
 use call_decoding::laws::{are_pictures, are_rules};
@@ -39,5 +39,5 @@ pub fn order()
 /// The message of an answer is that of the run's answer.
 pub fn answers_say()
     ensures { (clock : Clock) (h : Heard) (answer : runs.Heard Fault) → IsHeard clock h answer
-        → IsMessage clock (said_in h) (said_by answer) }
+        → SaysMessage clock (said_in_answer h) (said_by answer) }
 {}

@@ -23,7 +23,7 @@ fn bit(flag: bool) -> u16
 }
 
 impl Kept {
-    ghost use Rattle.receiver_end.specs.State.{Fits, holds, seen};
+    ghost use Rattle.receiver_end.specs.State.{Fits, slot_holds, seen};
     ghost use Rattle.receiver_end.specs.Steps.{ack_of};
 
     // The flags of the 14 numbers after `number`, of the last one first.
@@ -32,7 +32,7 @@ impl Kept {
         requires number { number ≤ 2 ^ 21 }
         ensures few { result < 2 ^ 14 }
         ensures flags { flags_of 14 (is_flagged result) 0
-            ≡ flags_of 14 (holds self.now.params self.now.store) number }
+            ≡ flags_of 14 (slot_holds self.now.params self.now.store) number }
     {
         let mut flags = 0;
         for j in 0..14u32 {
@@ -48,7 +48,7 @@ impl Kept {
         ensures few { AreMarks result }
         ensures flags { flags_in result
             ≡ flags_of (call.Rules.flags (rules_of self.now.params))
-            (holds self.now.params self.now.store) number }
+            (slot_holds self.now.params self.now.store) number }
     {
         if self.params.messages == 2 {
             Some(self.flags(number))
@@ -97,7 +97,7 @@ impl Kept {
             (rules_of self.now.params) self.now.played (offer_by_kept
             (decoding self.now.params.format) (rules_of self.now.params) (seen self.now))
             (flags_of (call.Rules.flags (rules_of self.now.params))
-            (holds self.now.params self.now.store) self.now.played)) }
+            (slot_holds self.now.params self.now.store) self.now.played)) }
     {
         let period = self.params.clock.period();
         let offered = self.offer().unwrap_or(self.played);

@@ -26,7 +26,7 @@ use packet_collector::Piece;
 
 impl Kept {
     ghost use Rattle.receiver_end.specs.State.{Fits, Stands, seen};
-    ghost use Rattle.receiver_end.specs.Steps.{IsAdded, IsCompleted, IsFresh, ack_of, piece_in};
+    ghost use Rattle.receiver_end.specs.Steps.{IsAdded, IsCompleted, IsFreshPiece, ack_of, piece_in};
     ghost use Rattle.receiver_end.specs.Steps.{taking};
 
     // Draws a slice, and marks its macroblocks as taken.
@@ -34,7 +34,7 @@ impl Kept {
         requires fits { Fits self.old }
         requires mbs { length mbs.now ≡ mbs_of self.old.params.format }
         requires piece { IsPieceIn self.old.params.format mbs.now piece.now }
-        requires fresh { IsFresh self.old piece.now fresh }
+        requires fresh { IsFreshPiece self.old piece.now fresh }
         ensures fits { Fits self.new }
         ensures added { IsAdded self.old self.new mbs.now piece.now fresh }
     {
@@ -76,7 +76,7 @@ impl Kept {
         requires fits { Fits self.old }
         requires mbs { length mbs.now ≡ mbs_of self.old.params.format }
         requires piece { IsPieceIn self.old.params.format mbs.now piece.now }
-        requires fresh { IsFresh self.old piece.now fresh }
+        requires fresh { IsFreshPiece self.old piece.now fresh }
         ensures fits { Fits self.new }
         ensures params { self.new.params ≡ self.old.params }
         ensures played { self.new.played ≡ self.old.played }

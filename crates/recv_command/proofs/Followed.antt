@@ -13,7 +13,7 @@ use Rattle.call_report.specs.declared.status.Status.{Status}
 use Rattle.call_report.specs.declared.status.Status.TheVariants as stops
 use Rattle.call_model.specs.Coding.{Message}
 use Rattle.call_model.specs.Receiving.{ReceiverEntry, PlayNext}
-use Rattle.receiver_end.specs.Answers.{mark_of, said_by}
+use Rattle.receiver_end.specs.Answers.{mark_from, said_by}
 use Rattle.receiver_end.specs.State.{run_of, answer_after, mark_after, message_after}
 use Rattle.desk_program.specs.Run.{Run, text_of}
 use Rattle.desk_program.specs.Texts.{on, only_at_ok}
@@ -128,10 +128,10 @@ module _ (p : Params) where
   -- ---- each output, by one entry
 
   abbrev frame : List ReceiverEntry → List ℕ
-  frame past = frame_text (mark_of (mark_after p past)) (run_of p (PlayNext ∷ past)).screen
+  frame past = frame_text (mark_from (mark_after p past)) (run_of p (PlayNext ∷ past)).screen
 
   abbrev line : List ReceiverEntry → List ℕ
-  line past = picture_text (run_of p past).played (Some (mark_of (mark_after p past))) None None
+  line past = picture_text (run_of p past).played (Some (mark_from (mark_after p past))) None None
 
   played_picture : (past : List ReceiverEntry) → pictures_text p past ++ recv_rules.other_text (state past) [] Pictures
       ≡ pictures_text p (PlayNext ∷ past)

@@ -5,7 +5,7 @@ use Rattle.std.specs.Prelude.{reverse}
 use Rattle.h263_types.specs.declared.params.Params.{Params}
 use Rattle.desk_program.specs.Texts.{no_texts}
 use Rattle.call_model.specs.Receiving.{ReceiverEntry, Packet, PlayNext}
-use Rattle.payload_join.specs.Joining.{Joining, Stands}
+use Rattle.payload_join.specs.Joining.{Joining, JoinerStands}
 use Rattle.payload_join.specs.Packet as joins
 use Rattle.payload_join.specs.Places.{Shows}
 use Rattle.payload_join.specs.Run.{given_next, joined_by}
@@ -57,8 +57,8 @@ past_is p (Packet bytes ∷ past) =
 
 -- ---- the joiner, after what was left is given
 
-pub stands_after : (a b : Joining) (past : List (List ℕ)) → a.top ≡ b.top → a.packets ≡ b.packets → Stands b past
-    → Stands a past
+pub stands_after : (a b : Joining) (past : List (List ℕ)) → a.top ≡ b.top → a.packets ≡ b.packets → JoinerStands b past
+    → JoinerStands a past
 stands_after a b past tops packets stands =
     subst (λ (o : Option ℕ). Shows o a.packets (joined_by past)) (sym tops)
     (subst (λ (l : List (Option joins.Packet)). Shows b.top l (joined_by past)) (sym packets) stands)

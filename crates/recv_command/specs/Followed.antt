@@ -15,7 +15,7 @@ use Rattle.call_report.specs.Text.{picture_text}
 use Rattle.call_model.specs.Coding.{Message}
 use Rattle.call_model.specs.Receiving.{ReceiverEntry, Packet, PlayNext}
 use Rattle.call_encoding.specs.Messages.{write_message}
-use Rattle.receiver_end.specs.Answers.{mark_of, said_by}
+use Rattle.receiver_end.specs.Answers.{mark_from, said_by}
 use Rattle.receiver_end.specs.State.{run_of, answer_after, mark_after, message_after}
 use Rattle.desk_program.specs.Run.{Run, text_of}
 use Rattle.log_command.specs.Followed.{IsEnd}
@@ -52,7 +52,7 @@ module _ (p : Params) where
   pictures_text [] = []
   pictures_text (Packet bytes ∷ past) = pictures_text past
   pictures_text (PlayNext ∷ past) =
-      pictures_text past ++ frame_text (mark_of (mark_after p past)) (run_of p (PlayNext ∷ past)).screen
+      pictures_text past ++ frame_text (mark_from (mark_after p past)) (run_of p (PlayNext ∷ past)).screen
 
   -- the messages that the receiver has said, to packets and at plays
   abbrev pub messages_text : List ReceiverEntry → List ℕ
@@ -67,13 +67,13 @@ module _ (p : Params) where
   receiver_play_lines (Packet bytes ∷ past) = receiver_play_lines past
   receiver_play_lines (PlayNext ∷ past) =
       receiver_play_lines past
-      ++ picture_text (run_of p past).played (Some (mark_of (mark_after p past))) None None
+      ++ picture_text (run_of p past).played (Some (mark_from (mark_after p past))) None None
 
   -- what is counted: each play by its mark, and each packet by its answer
   abbrev pub counted_heard : List ReceiverEntry → Tally
   counted_heard [] = nothing_heard_counted
   counted_heard (Packet bytes ∷ past) = with_answer (answer_after p past bytes) (counted_heard past)
-  counted_heard (PlayNext ∷ past) = with_mark (mark_of (mark_after p past)) (counted_heard past)
+  counted_heard (PlayNext ∷ past) = with_mark (mark_from (mark_after p past)) (counted_heard past)
 
   -- The run is the receiver's over these packets and plays: its pictures are the head and then what
   -- the plays showed, its wire has what was said, and its report the lines of the plays, with the

@@ -14,14 +14,14 @@ use Rattle.desk_program.specs.Run.{Step}
 use Rattle.desk_program.specs.Texts.{no_texts, on, then_also}
 use Rattle.log_command.specs.Log.{LogRules, LogState, log_begin, log_step}
 use Rattle.call_model.specs.Receiving.{ReceiverEntry, Packet, PlayNext}
-use Rattle.payload_join.specs.Joining.{Stands}
+use Rattle.payload_join.specs.Joining.{JoinerStands}
 use Rattle.payload_join.specs.Run.{given_next, took_next}
 use Rattle.recv_command.specs.declared.join.Joining.{Joining}
 use Rattle.recv_command.specs.declared.join_tally.JoinTally.{JoinTally}
 use Rattle.recv_command.specs.declared.recv.Receiving.{Receiving}
 use Rattle.recv_command.specs.JoinTally.{join_text, nothing_taken, packets_taken, with_joined, with_took}
 use Rattle.recv_command.specs.Recv.{RecvStands, RecvState, nothing_heard, recv_rules}
-use Rattle.recv_command.specs.Tally.{total_of}
+use Rattle.recv_command.specs.Tally.{total_counted}
 
 -- ---- a receiver that gets several packets
 
@@ -114,7 +114,7 @@ joined_state p (entry ∷ past) = joins_entry (joined_state p past) entry
 pub record JoinStands (c : Joining) (s : JoinState) : Type 0 where
   pub format : s.receiver.params.format ≡ c.format
   pub took : s.took ≡ c.took
-  pub joiner : Stands c.joiner s.packets
+  pub joiner : JoinerStands c.joiner s.packets
   pub receiver : RecvStands c.receiving s.receiver
 
 pub record JoinReady (c : Joining) (entries : ℕ) (attached : Role → Bool) : Type 0 where
@@ -124,11 +124,11 @@ pub record JoinReady (c : Joining) (entries : ℕ) (attached : Role → Bool) : 
   -- all was given, and the joiner stands for some packets
   pub none_left : c.joiner.left ≡ []
   pub past : List (List ℕ)
-  pub stands : Stands c.joiner past
+  pub stands : JoinerStands c.joiner past
   -- one packet of the log gives 2^22 at most
   pub packets : packets_taken c.took ≤ entries
   pub joined : c.took.joined ≤ 2 ^ 22 * entries
-  pub counted : total_of c.receiving.tally ≤ 2 ^ 22 * entries
+  pub counted : total_counted c.receiving.tally ≤ 2 ^ 22 * entries
 
 -- ---- while the packets that go out are delivered
 

@@ -10,12 +10,12 @@ use Rattle.desk_program.specs.Run.{Step}
 use Rattle.desk_program.specs.Texts.{on}
 use Rattle.log_command.specs.Log.{LogRules, LogState, log_begin, log_step}
 use Rattle.call_model.specs.Receiving.{ReceiverEntry, Packet, PlayNext}
-use Rattle.receiver_end.specs.Answers.{mark_of, said_by}
+use Rattle.receiver_end.specs.Answers.{mark_from, said_by}
 use Rattle.receiver_end.specs.State.{run_of, answer_after, mark_after, message_after, Stands}
 use Rattle.recv_command.specs.declared.recv.Receiving.{Receiving}
 use Rattle.recv_command.specs.declared.tally.Tally.{Tally}
 use Rattle.recv_command.specs.Said.{said_message_text, shown_play_text}
-use Rattle.recv_command.specs.Tally.{nothing_heard_counted, total_of, with_mark, with_answer, receiver_counts}
+use Rattle.recv_command.specs.Tally.{nothing_heard_counted, total_counted, with_mark, with_answer, receiver_counts}
 
 -- the parameters, the packets and plays so far, newest first, and what was counted of them
 pub record RecvState : Type 0 where
@@ -38,7 +38,7 @@ heard_text p past bytes = said_message_text (said_by (answer_after p past bytes)
 -- says so
 abbrev pub played_text : Params → List ReceiverEntry → Role → List ℕ
 played_text p past =
-    shown_play_text (run_of p past).played (mark_of (mark_after p past)) (run_of p (PlayNext ∷ past)).screen
+    shown_play_text (run_of p past).played (mark_from (mark_after p past)) (run_of p (PlayNext ∷ past)).screen
     (message_after p past)
 
 -- each entry joins those so far, and is counted; at the end the counts are told
@@ -48,7 +48,7 @@ recv_rules =
       side = OfReceiver;
       packet = λ s bytes. after_heard_entry s (Packet bytes) (with_answer (answer_after s.params s.past bytes) s.tally);
       packet_text = λ s bytes. heard_text s.params s.past bytes;
-      other = λ s bytes. after_heard_entry s PlayNext (with_mark (mark_of (mark_after s.params s.past)) s.tally);
+      other = λ s bytes. after_heard_entry s PlayNext (with_mark (mark_from (mark_after s.params s.past)) s.tally);
       other_text = λ s bytes. played_text s.params s.past;
       plays = λ s. (run_of s.params s.past).played;
       end_text = λ s. on Report (receiver_counts (run_of s.params s.past).played s.tally);
@@ -78,4 +78,4 @@ pub record RecvReady (c : Receiving) (entries : ℕ) (attached : Role → Bool) 
   pub pictures : attached Pictures ≡ true
   pub wire : attached Wire ≡ true
   pub report : attached Report ≡ true
-  pub counted : total_of c.tally ≡ entries
+  pub counted : total_counted c.tally ≡ entries

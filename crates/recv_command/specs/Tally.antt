@@ -24,8 +24,8 @@ nothing_heard_counted =
     }
 
 -- how much was counted: each entry of a log counts once
-abbrev pub total_of : Tally → ℕ
-total_of t = t.exact + t.patched + t.held + t.taken + t.late + t.early + t.repeat + t.refused
+abbrev pub total_counted : Tally → ℕ
+total_counted t = t.exact + t.patched + t.held + t.taken + t.late + t.early + t.repeat + t.refused
 
 -- a picture more was shown with this mark
 abbrev pub with_mark : Mark → Tally → Tally

@@ -5,13 +5,13 @@ ghost use Rattle.h263_outside.specs.declared.desk.Role.{Role};
 ghost use Rattle.h263_outside.specs.declared.desk.Role.TheVariants.{Wire};
 ghost use Rattle.h263_types.specs.declared.clock.Clock.{Clock};
 ghost use Rattle.call_model.specs.Coding.{Message};
-ghost use Rattle.receiver_end.specs.Answers.{IsMessage};
+ghost use Rattle.receiver_end.specs.Answers.{SaysMessage};
 ghost use Rattle.desk_program.specs.Texts.{then_also};
 ghost use Rattle.recv_command.specs.Join.{HasWritten, Delivering, IsDelivering, Wrote, delivers};
 ghost use Rattle.recv_command.specs.JoinTally.{with_joined};
 ghost use Rattle.recv_command.specs.Recv.{RecvStands, RecvState};
 ghost use Rattle.recv_command.specs.Said.{said_message_text};
-ghost use Rattle.recv_command.specs.Tally.{total_of};
+ghost use Rattle.recv_command.specs.Tally.{total_counted};
 
 use crate::parts::say;
 use crate::{JoinTally, Receiving};
@@ -31,7 +31,7 @@ fn say_after<D: Desk>(
     ensures has_written { (old : Outside)
         → HasWritten before old (D.outside desk.old) → HasWritten result old (D.outside desk.new) }
     ensures said { (old : Role → Option (List ℕ)) (texts : Role → List ℕ) (clock : Clock)
-        (said : Option Message) → IsMessage clock message said
+        (said : Option Message) → SaysMessage clock message said
         → Wrote texts before old (D.outside desk.old).written
         → Wrote (then_also texts (said_message_text said)) result old (D.outside desk.new).written }
     ensures wire { (D.outside desk.new).attached Wire ≡ true }
@@ -52,13 +52,13 @@ fn deliver_one<D: Desk>(
     before: Result<(), Status>,
 ) -> Result<(), Status>
     requires wire { (D.outside desk.old).attached Wire ≡ true }
-    requires room { total_of receiving.old.tally < 2 ^ 47 }
+    requires room { total_counted receiving.old.tally < 2 ^ 47 }
     ensures has_written { (old : Outside)
         → HasWritten before old (D.outside desk.old) → HasWritten result old (D.outside desk.new) }
     ensures delivering { (left : List (List ℕ)) (all : Delivering) (old : Role → Option (List ℕ))
         → IsDelivering receiving.old (bytes.now ∷ left) before all old (D.outside desk.old).written
         → IsDelivering receiving.new left result all old (D.outside desk.new).written }
-    ensures total { total_of receiving.new.tally ≡ total_of receiving.old.tally + 1 }
+    ensures total { total_counted receiving.new.tally ≡ total_counted receiving.old.tally + 1 }
     ensures wire { (D.outside desk.new).attached Wire ≡ true }
 {
     let message = receiving.deliver(bytes);
@@ -74,13 +74,13 @@ pub(crate) fn deliver_all<D: Desk>(
     desk: &mut D,
 ) -> Result<(), Status>
     requires wire { (D.outside desk.old).attached Wire ≡ true }
-    requires room { total_of receiving.old.tally + length joiner.old.left < 2 ^ 47 }
+    requires room { total_counted receiving.old.tally + length joiner.old.left < 2 ^ 47 }
     requires joined { took.old.joined + length joiner.old.left < 2 ^ 47 }
     ensures left { joiner.new.left ≡ [] }
     ensures top { joiner.new.top ≡ joiner.old.top }
     ensures packets { joiner.new.packets ≡ joiner.old.packets }
-    ensures total { total_of receiving.new.tally
-        ≡ total_of receiving.old.tally + length joiner.old.left }
+    ensures total { total_counted receiving.new.tally
+        ≡ total_counted receiving.old.tally + length joiner.old.left }
     ensures took { took.new ≡ with_joined (length joiner.old.left) took.old }
     ensures has_written { HasWritten result (D.outside desk.old) (D.outside desk.new) }
     ensures stands { (s : RecvState) → RecvStands receiving.old s

@@ -1,6 +1,6 @@
 //! What is counted of a joiner.
 ghost use Rattle.std.specs.Prelude.{◌≡◌, ◌+◌, ◌<◌, ◌^◌};
-ghost use Rattle.call_report.specs.View.{text_of};
+ghost use Rattle.call_report.specs.View.{line_text};
 
 use call_report::Line;
 use payload_join::Took;
@@ -57,7 +57,7 @@ impl JoinTally {
 
     /// The line of what was taken and went out.
     pub fn line(&self) -> Line
-        ensures { text_of result ≡ join_text self.now }
+        ensures { line_text result ≡ join_text self.now }
     {
         let mut line = Line::empty();
         line.pair("held", self.held);

@@ -6,7 +6,7 @@ ghost use Rattle.h263_types.specs.declared.clock.Clock.{Clock};
 ghost use Rattle.h263_planes.specs.Lent.{picture as lent};
 ghost use Rattle.desk_program.specs.Ends.{Gains, GainsFronts};
 ghost use Rattle.call_model.specs.Coding.{Message};
-ghost use Rattle.receiver_end.specs.Answers.{IsMessage};
+ghost use Rattle.receiver_end.specs.Answers.{SaysMessage};
 ghost use Rattle.coded_call.specs.Bytes.{AreBytes};
 ghost use Rattle.recv_command.specs.Said.{said_message_text, shown_play_text};
 
@@ -30,10 +30,10 @@ fn are_bytes(bytes: &[u8])
 pub fn say<D: Desk>(desk: &mut D, said: Option<Said>) -> Result<(), Status>
     requires { (D.outside desk.old).attached Wire ≡ true }
     ensures ok { (clock : Clock) (message : Option Message)
-        → IsMessage clock said message → OnOk result
+        → SaysMessage clock said message → OnOk result
         (Gains (said_message_text message) (D.outside desk.old).written (D.outside desk.new).written) }
     ensures err { (clock : Clock) (message : Option Message)
-        → IsMessage clock said message → OnErr result (GainsFronts
+        → SaysMessage clock said message → OnErr result (GainsFronts
         (said_message_text message) (D.outside desk.old).written (D.outside desk.new).written) }
     ensures kind { IfErr result (λ status. status ≡ Status.WriteFault) }
     ensures cause { OnErr result
@@ -57,11 +57,11 @@ pub fn show<D: Desk>(desk: &mut D, picture: PictureRef<'_>, played: Played) -> R
     requires pictures { (D.outside desk.old).attached Pictures ≡ true }
     requires report { (D.outside desk.old).attached Report ≡ true }
     requires wire { (D.outside desk.old).attached Wire ≡ true }
-    ensures ok { (clock : Clock) (message : Option Message) → IsMessage clock played.message message
+    ensures ok { (clock : Clock) (message : Option Message) → SaysMessage clock played.message message
         → OnOk result (Gains (shown_play_text played.number played.mark (lent picture.entry) message)
         (D.outside desk.old).written (D.outside desk.new).written) }
     ensures err { (clock : Clock) (message : Option Message)
-        → IsMessage clock played.message message
+        → SaysMessage clock played.message message
         → OnErr result (GainsFronts (shown_play_text played.number played.mark (lent picture.entry) message)
         (D.outside desk.old).written (D.outside desk.new).written) }
     ensures kind { IfErr result (λ status. status ≡ Status.WriteFault) }

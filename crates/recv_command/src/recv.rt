@@ -3,10 +3,10 @@ ghost use Rattle.std.specs.Prelude.{◌≡◌, ◌+◌, ◌<◌, ◌^◌, ℕ, t
 ghost use Rattle.h263_outside.specs.Desk.{OnlyWrites, Rose};
 ghost use Rattle.h263_outside.specs.declared.desk.Role.TheVariants.{Pictures, Report, Wire};
 ghost use Rattle.desk_program.specs.Ends.{Gains, GainsFronts};
-ghost use Rattle.receiver_end.specs.Answers.{IsMessage, said_by};
+ghost use Rattle.receiver_end.specs.Answers.{SaysMessage, said_by};
 ghost use Rattle.receiver_end.specs.State.{answer_after};
 ghost use Rattle.recv_command.specs.Recv.{RecvStands, RecvState, recv_rules};
-ghost use Rattle.recv_command.specs.Tally.{total_of};
+ghost use Rattle.recv_command.specs.Tally.{total_counted};
 
 use crate::Tally;
 use crate::parts::{say, show};
@@ -32,12 +32,12 @@ pub struct Receiving {
 impl Receiving {
     // Delivers a packet. The message acknowledges what the packet completes.
     pub(crate) fn deliver(&mut self, bytes: &[u8]) -> Option<Said>
-        requires { total_of self.old.tally < 2 ^ 47 }
+        requires { total_counted self.old.tally < 2 ^ 47 }
         ensures stands { (s : RecvState) → RecvStands self.old s
             → RecvStands self.new (recv_rules.packet s bytes.now) }
-        ensures says { (s : RecvState) → RecvStands self.old s → IsMessage s.params.clock result
+        ensures says { (s : RecvState) → RecvStands self.old s → SaysMessage s.params.clock result
             (said_by (answer_after s.params s.past bytes.now)) }
-        ensures total { total_of self.new.tally ≡ total_of self.old.tally + 1 }
+        ensures total { total_counted self.new.tally ≡ total_counted self.old.tally + 1 }
     {
         receiver_end_laws::answers_say();
         let heard = self.receiver.packet(bytes);
@@ -48,13 +48,13 @@ impl Receiving {
     // A play: the next picture is shown; where it isn't complete a message says so.
     pub(crate) fn play<D: Desk>(&mut self, desk: &mut D) -> Result<(), Status>
         requires played { self.old.receiver.played < 1048576 }
-        requires room { total_of self.old.tally < 2 ^ 47 }
+        requires room { total_counted self.old.tally < 2 ^ 47 }
         requires pictures { (D.outside desk.old).attached Pictures ≡ true }
         requires report { (D.outside desk.old).attached Report ≡ true }
         requires wire { (D.outside desk.old).attached Wire ≡ true }
         ensures stands { (s : RecvState) (bytes : List ℕ) → RecvStands self.old s
             → RecvStands self.new (recv_rules.other s bytes) }
-        ensures total { total_of self.new.tally ≡ total_of self.old.tally + 1 }
+        ensures total { total_counted self.new.tally ≡ total_counted self.old.tally + 1 }
         ensures ok { (s : RecvState) (bytes : List ℕ) → RecvStands self.old s
             → OnOk result (Gains (recv_rules.other_text s bytes)
             (D.outside desk.old).written (D.outside desk.new).written) }

@@ -1,6 +1,6 @@
 //! What `recv` counts for the last line of its report.
 ghost use Rattle.std.specs.Prelude.{◌≡◌, ◌+◌, ◌<◌, ◌^◌};
-ghost use Rattle.call_report.specs.View.{text_of};
+ghost use Rattle.call_report.specs.View.{line_text};
 
 use call_report::Line;
 use h263_types::Mark;
@@ -21,7 +21,7 @@ pub struct Tally {
 }
 
 impl Tally {
-    ghost use Rattle.recv_command.specs.Tally.{nothing_heard_counted, total_of, with_mark, with_heard, receiver_counts};
+    ghost use Rattle.recv_command.specs.Tally.{nothing_heard_counted, total_counted, with_mark, with_heard, receiver_counts};
 
     /// Nothing was counted.
     pub fn new() -> Tally
@@ -41,9 +41,9 @@ impl Tally {
 
     /// Counts a picture that is shown.
     pub fn play(&mut self, mark: Mark)
-        requires { total_of self.old < 2 ^ 47 }
+        requires { total_counted self.old < 2 ^ 47 }
         ensures counts { self.new ≡ with_mark mark self.old }
-        ensures total { total_of self.new ≡ total_of self.old + 1 }
+        ensures total { total_counted self.new ≡ total_counted self.old + 1 }
     {
         match mark {
             Mark::Exact => self.exact += 1,
@@ -54,9 +54,9 @@ impl Tally {
 
     /// Counts the answer to a packet.
     pub fn count(&mut self, heard: &Heard)
-        requires { total_of self.old < 2 ^ 47 }
+        requires { total_counted self.old < 2 ^ 47 }
         ensures counts { self.new ≡ with_heard heard.now self.old }
-        ensures total { total_of self.new ≡ total_of self.old + 1 }
+        ensures total { total_counted self.new ≡ total_counted self.old + 1 }
     {
         match heard {
             Heard::Taken | Heard::Completed(_) => self.taken += 1,
@@ -69,7 +69,7 @@ impl Tally {
 
     /// The line of what was played and counted.
     pub fn line(&self, played: u32) -> Line
-        ensures { text_of result ≡ receiver_counts played self.now }
+        ensures { line_text result ≡ receiver_counts played self.now }
     {
         let mut line = Line::empty();
         line.pair("played", played as u64);

@@ -7,7 +7,7 @@ use Rattle.call_model.specs.CodedPictures.{is_among}
 use Rattle.std.specs.Option.{option_map_or}
 use Rattle.back_messages.specs.declared.message.Message.{Message as Written}
 use Rattle.back_messages.specs.declared.message.Message.TheVariants as written
-use Rattle.back_messages.specs.Text.{marks_of}
+use Rattle.back_messages.specs.Text.{message_marks}
 use Rattle.call_model.specs.Sending.{message_flags}
 use Rattle.reference_selector.specs.Messages.{flags_in, is_flagged, is_named, message_of}
 
@@ -127,6 +127,6 @@ known_both called flagged made m k is =
     ∙ ap (λ (b : Bool). b || k) (sym (among_both called flagged m))
     ∙ ap (λ (o : Option (List ℕ)). is_among (option_map_or (λ (numbers : List ℕ). numbers) o []) m || k) is
 
-pub flags_are : (m : Written) → message_flags (message_of m) ≡ flags_in (marks_of m)
+pub flags_are : (m : Written) → message_flags (message_of m) ≡ flags_in (message_marks m)
 flags_are (written.Ack tr marks) = refl
 flags_are (written.Nack tr rtr marks) = refl

@@ -10,9 +10,9 @@ use Rattle.h263_bits.specs.Reading.{Bits, ok, err}
 use Rattle.h263_bits.specs.Syntax.{reading, any, done, Spells, IsProductive}
 use Rattle.h263_bits.proofs.SyntaxLaws.{length-bits_of, bits_of-take, bits_of-append, sound, complete, spells_part, spells_done, spells_whole, either_productive, ok_is, err_not_ok, passed_if, passed_unless}
 use Rattle.rtp_header.specs.declared.rtp.Rtp.{Rtp}
-use Rattle.rtp_header.specs.Text.{Head, head, extension, after_fixed, header, from_byte, IsPadding, IsRtp}
+use Rattle.rtp_header.specs.Text.{Head, head, extension, after_fixed, rtp_front, from_byte, IsPadding, IsRtp}
 use Rattle.rtp_header.specs.Faults.{rtp_in, with_head, with_end, with_payload, end_of, payload_end_of, accepted_of}
-use Rattle.rtp_header.specs.Written.{IsWithin}
+use Rattle.rtp_header.specs.Written.{IsPayloadWithin}
 use Rattle.rtp_header.proofs.Heads.{head_length, after_fixed_length, head_productive}
 
 -- ---- what is read spells the packet
@@ -134,11 +134,11 @@ padding_ok (suc p) bytes from to fits e = counted p bytes from to (get_or bytes 
 -- the bytes in front of the payload spell the header
 pub record Front (h : Head) (bytes : List ℕ) (from : ℕ) : Type 0 where
   pub fits : from ≤ length bytes
-  pub text : Spells header h (bits_of (take from bytes))
+  pub text : Spells rtp_front h (bits_of (take from bytes))
 
 pub front_is : (h : Head) (bytes : List ℕ) (b c : Bits) → reading head (from_byte 0 bytes) ≡ Ok (h, b)
     → reading (after_fixed h) b ≡ Ok (tt, c) → Front h bytes (c.at / 8)
-unfolding header
+unfolding rtp_front
 front_is h bytes b c e f =
     let one = sound head (from_byte 0 bytes) b h e in
     let two = sound (after_fixed h) b c tt f in
@@ -165,11 +165,11 @@ front_is h bytes b c e f =
     let front : bits_of (take k bytes) ≡ text = bits_of-take k bytes fits ∙ ap (take (8 * k)) whole
     ∙ take_at text c.bits (8 * k) size in
     let end : Spells (after_fixed h) tt two.0 = two.2 in
-    let spelt : Spells header h (one.0 ++ (two.0 ++ [])) = spells_part head any _ h h one.0 (two.0 ++ []) one.2 refl
+    let spelt : Spells rtp_front h (one.0 ++ (two.0 ++ [])) = spells_part head any _ h h one.0 (two.0 ++ []) one.2 refl
     (spells_part (after_fixed h) any _ h tt two.0 [] end refl (spells_done h)) in
     record {
       fits = fits;
-      text = spells_whole header h (one.0 ++ (two.0 ++ [])) (bits_of (take k bytes))
+      text = spells_whole rtp_front h (one.0 ++ (two.0 ++ [])) (bits_of (take k bytes))
           (ap (λ (t : List Bool). one.0 ++ t) (append-nil two.0) ∙ sym front) spelt;
     }
 
@@ -220,8 +220,8 @@ pub record Halves (h : Head) (bits : List Bool) : Type 0 where
   pub head : Spells head h fixed
   pub after_fixed : Spells (after_fixed h) tt more
 
-pub halves_of : (h : Head) (bits : List Bool) → Spells header h bits → Halves h bits
-unfolding header Spells
+pub halves_of : (h : Head) (bits : List Bool) → Spells rtp_front h bits → Halves h bits
+unfolding rtp_front Spells
 halves_of h bits s =
     let g = s.0 in
     let t = s.6 in
@@ -275,7 +275,7 @@ payload_is (suc p) bytes front payload padding e text =
 
 -- what is looked for after a whole header of version 2
 pub opened : (bytes front rest : List ℕ) (h : Head) → length bytes ≤ 65535 → bytes ≡ front ++ rest
-    → Spells header h (bits_of front) → h.version ≡ 2
+    → Spells rtp_front h (bits_of front) → h.version ≡ 2
     → rtp_in bytes ≡ with_payload bytes h (length front) (payload_end_of h bytes (length front))
 unfolding rtp_in
 opened bytes front rest h few parts text two =
@@ -318,7 +318,7 @@ text_read r bytes s =
     ∙ ap (with_payload bytes h (length s.front)) end ∙ accepted
 
 -- the payload lies in the packet
-pub text_within : (r : Rtp) (bytes : List ℕ) → IsRtp r bytes → IsWithin r bytes
+pub text_within : (r : Rtp) (bytes : List ℕ) → IsRtp r bytes → IsPayloadWithin r bytes
 text_within r bytes s =
     let halves = halves_of s.fields (bits_of s.front) s.text in
     let from : r.from ≡ length s.front = ap (λ (v : Rtp). v.from) s.value in

@@ -9,12 +9,12 @@ use Rattle.h263_bits.specs.declared.fault.FaultKind.TheVariants as faults
 use Rattle.h263_bits.specs.Bits.{spelled, number, fields}
 use Rattle.h263_bits.specs.Reading.{Bits}
 use Rattle.h263_bits.specs.Syntax.{any, either, done, field, Syntax, reading}
-use Rattle.h263_bits.specs.Elements.{Faults}
+use Rattle.h263_bits.specs.Elements.{ElementFaults}
 use Rattle.h263_bits.proofs.SyntaxLaws.{stands, err_is, err_not_ok, sound, complete, length-spelled, length-bits_of, spelled-number, number-lt, fault_found, fault_again}
 use Rattle.rtp_header.specs.declared.rtp.Rtp.{Rtp}
 use Rattle.rtp_header.specs.Text.{Head, head, extension, after_fixed, from_byte, IsRtp}
 use Rattle.rtp_header.specs.Faults.{rtp_in, with_head, with_end, with_payload, end_of, payload_end_of, accepted_of}
-use Rattle.rtp_header.specs.Rows.{Begins, EndsInExtension, EndsInside, Carries, IsWhole, IsRtpFault, long, short, version, short_after_fixed, padding, type, source}
+use Rattle.rtp_header.specs.Rows.{Begins, EndsInExtension, EndsInside, Carries, IsWholePayload, IsRtpFault, long, short, version, short_after_fixed, padding, type, source}
 use Rattle.rtp_header.proofs.Heads.{head_length, head_productive}
 use Rattle.rtp_header.proofs.Exact.{padding_ok, front_is, after_fixed_productive, payload_is, opened, text_read}
 
@@ -83,11 +83,11 @@ first_field n left fits =
 
 -- a list of bits in which a syntax is cut
 abbrev IsCutIn : {A : Type 0} → Syntax A → List Bool → Type 0
-IsCutIn s left = (front rest : List Bool) × (left ≡ front ++ rest) × Faults s front rest faults.Ended
+IsCutIn s left = (front rest : List Bool) × (left ≡ front ++ rest) × ElementFaults s front rest faults.Ended
 
 -- what ends inside the sources or the extension has a fault there
 cut_extension : (left : List Bool) → EndsInExtension left → IsCutIn extension left
-unfolding extension Faults
+unfolding extension ElementFaults
 cut_extension left (inl lt) =
     elim (cases_lt (length left) 16) [
       | inl few ↦ ([], left, refl, inl (refl, inl (few, refl)))
@@ -118,7 +118,7 @@ cut_extension left (inr e) = (
 )
 
 cut_after : (h : Head) (left : List Bool) → EndsInside h left → IsCutIn (after_fixed h) left
-unfolding after_fixed Faults
+unfolding after_fixed ElementFaults
 cut_after h left (inl lt) = ([], left, refl, inl (refl, inl (omega (arith, lt), refl)))
 cut_after h left (inr e) =
     let n = 8 * (4 * h.sources) in
@@ -127,8 +127,9 @@ cut_after h left (inr e) =
     let small : number e.1 < 2 ^ n = subst (λ (k : ℕ). number e.1 < 2 ^ k) len (number-lt e.1) in
     let text : spelled n (number e.1) ≡ e.1 = subst (λ (k : ℕ). spelled k (number e.1)
     ≡ e.1) len (spelled-number e.1) in
-    let more : Faults (either (h.extension == 0) (done tt) extension) c.0 c.1 faults.Ended =
-    subst (λ (t : Bool). Faults (either t (done tt) extension) c.0 c.1 faults.Ended) (sym (ne_eqb h.extension 0 e.0))
+    let more : ElementFaults (either (h.extension == 0) (done tt) extension) c.0 c.1 faults.Ended =
+    subst (λ (t : Bool). ElementFaults (either t (done tt) extension) c.0 c.1 faults.Ended)
+    (sym (ne_eqb h.extension 0 e.0))
     c.3 in
     let parts : left ≡ (e.1 ++ c.0) ++ c.1 = e.4 ∙ ap (λ (t : List Bool). e.1 ++ t) c.2
     ∙ sym (append_assoc e.1 c.0 c.1) in
@@ -175,7 +176,7 @@ padding_row bytes h rest c padded bad =
     carried bytes h rest c ∙ ap (with_payload bytes h (length c.front)) (no_end h bytes (length c.front) padded
     (subst (λ (n : ℕ). (last ≡ 0) ⊎ (n < last)) (rest_is bytes h rest c) bad))
 
-whole : (bytes : List ℕ) (h : Head) (w : IsWhole bytes h)
+whole : (bytes : List ℕ) (h : Head) (w : IsWholePayload bytes h)
     → rtp_in bytes ≡ accepted_of h (length w.carries.front) (length w.carries.front + length w.payload)
 whole bytes h w =
     let front = w.carries.front in
@@ -183,11 +184,11 @@ whole bytes h w =
     payload_is h.padding bytes front w.payload w.padding w.carries.parts w.padded in
     carried bytes h (w.payload ++ w.padding) w.carries ∙ ap (with_payload bytes h (length front)) end
 
-type_row : (bytes : List ℕ) (h : Head) → IsWhole bytes h → (h.type ≡ 96 → ⊥)
+type_row : (bytes : List ℕ) (h : Head) → IsWholePayload bytes h → (h.type ≡ 96 → ⊥)
     → rtp_in bytes ≡ Err (stands faults.PayloadType 9)
 type_row bytes h w other = whole bytes h w ∙ rw (ne_eqb h.type 96 other) refl
 
-source_row : (bytes : List ℕ) (h : Head) → IsWhole bytes h → h.type ≡ 96 → (h.source ≡ 1211250227 → ⊥)
+source_row : (bytes : List ℕ) (h : Head) → IsWholePayload bytes h → h.type ≡ 96 → (h.source ≡ 1211250227 → ⊥)
     → rtp_in bytes ≡ Err (stands faults.Source 64)
 source_row bytes h w is other = whole bytes h w ∙ rw (eq-eqb h.type 96 is, ne_eqb h.source 1211250227 other) refl
 
@@ -205,23 +206,25 @@ of_row bytes kind at (source h w is other) = source_row bytes h w is other
 no_fault : (kind : FaultKind) → None ≡ Some kind → ⊥
 no_fault kind e = cc
 
-nothing_left : {A : Type 0} (x : A) (front left : List Bool) (kind : FaultKind) → Faults (done x) front left kind → ⊥
-unfolding Faults
+nothing_left : {A : Type 0} (x : A) (front left : List Bool) (kind : FaultKind) → ElementFaults (done x) front left kind
+    → ⊥
+unfolding ElementFaults
 nothing_left x front left kind f = f
 
 -- a field that may have any number, and what comes after it
 any_step : {A : Type 0} (n m : ℕ) (next : ℕ → Syntax A) (front left : List Bool) (kind : FaultKind)
-    → Faults (field n any next) front left kind
-    → ((v : ℕ) (rest : List Bool) → Faults (next v) rest left kind → length rest + length left < m)
+    → ElementFaults (field n any next) front left kind
+    → ((v : ℕ) (rest : List Bool) → ElementFaults (next v) rest left kind → length rest + length left < m)
     → length front + length left < n + m
-unfolding Faults
+unfolding ElementFaults
 any_step n m next front left kind (inl (none, inl cut)) more = omega (arith, ap length none, cut.0)
 any_step n m next front left kind (inl (none, inr refused)) more = absurd (no_fault kind refused.4)
 any_step n m next front left kind (inr f) more =
     omega (arith, ap length f.4, length-append (spelled n f.0) f.1, length-spelled n f.0, more f.0 f.1 f.5)
 
 -- a fixed header has no fault but that it is cut
-cut_head : (front left : List Bool) (kind : FaultKind) → Faults head front left kind → length front + length left < 96
+cut_head : (front left : List Bool) (kind : FaultKind) → ElementFaults head front left kind
+    → length front + length left < 96
 unfolding head
 cut_head front left kind f =
     any_step 2 94 _ front left kind f λ version r f. any_step 1 93 _ r left kind f λ padding r f. any_step 1 92
@@ -232,9 +235,9 @@ cut_head front left kind f =
     _ r left kind f λ source r f. absurd (nothing_left _ r left kind f)
 
 -- what an extension that has a fault ends inside of
-extension_found : (front left : List Bool) (kind : FaultKind) → Faults extension front left kind
+extension_found : (front left : List Bool) (kind : FaultKind) → ElementFaults extension front left kind
     → EndsInExtension (front ++ left)
-unfolding extension Faults
+unfolding extension ElementFaults
 extension_found front left kind (inl (none, inl cut)) = inl (omega (
   arith,
   length-append front left,
@@ -277,9 +280,10 @@ extension_found front left kind (inr (
 extension_found front left kind (inr (profile, rest, p, ok, parts, inr (words, rest2, w, ok2, parts2, inr f))) =
     absurd f.5
 
-after_fixed_found : (h : Head) (front left : List Bool) (kind : FaultKind) → Faults (after_fixed h) front left kind
+after_fixed_found : (h : Head) (front left : List Bool) (kind : FaultKind)
+    → ElementFaults (after_fixed h) front left kind
     → EndsInside h (front ++ left)
-unfolding after_fixed Faults
+unfolding after_fixed ElementFaults
 after_fixed_found h front left kind (inl (none, inl cut)) = inl (omega (
   arith,
   length-append front left,
@@ -292,7 +296,7 @@ after_fixed_found h front left kind (inr (v, rest, small, ok, parts, f)) = at_ex
     n : ℕ
     n = 8 * (4 * h.sources)
 
-    at_extension : (t : Bool) → (h.extension == 0) ≡ t → Faults (either t (done tt) extension) rest left kind
+    at_extension : (t : Bool) → (h.extension == 0) ≡ t → ElementFaults (either t (done tt) extension) rest left kind
         → EndsInside h (front ++ left)
     at_extension true e g = absurd g
     at_extension false e g =
@@ -315,7 +319,7 @@ row : {bytes : List ℕ} (kind : FaultKind) (at : ℕ) → IsRtpFault bytes kind
 row kind at r = inl (kind, at, r)
 
 -- with payload and padding
-at_type : (bytes : List ℕ) (h : Head) → IsWhole bytes h → Stands bytes
+at_type : (bytes : List ℕ) (h : Head) → IsWholePayload bytes h → Stands bytes
 at_type bytes h w = by (h.type == 96) refl (h.source == 1211250227) refl
   where
     by : (a : Bool) → (h.type == 96) ≡ a → (b : Bool) → (h.source == 1211250227) ≡ b → Stands bytes

@@ -6,7 +6,7 @@ use Rattle.byteorder.specs.Endian.{big_bytes}
 use Rattle.h263_bits.specs.Bits.{bits_of, spelled, fields}
 use Rattle.h263_bits.specs.Syntax.{any, Spells}
 use Rattle.h263_bits.proofs.SyntaxLaws.{length-bits_of, spells_field, spells_part, spells_done, spells_whole, length-fields}
-use Rattle.rtp_header.specs.Text.{Head, head, after_fixed, header}
+use Rattle.rtp_header.specs.Text.{Head, head, after_fixed, rtp_front}
 use Rattle.rtp_header.specs.Faults.{rtp_in}
 use Rattle.rtp_header.specs.Written.{rtp_fields}
 use Rattle.rtp_header.proofs.Heads.{head_spelt, IsHead, first_byte, second_byte, two_bytes, four_bytes}
@@ -60,8 +60,8 @@ marker_back true = refl
 marker_back false = refl
 
 header_written : (marker : Bool) (sequence timestamp : ℕ) → sequence < 65536 → timestamp < 4294967296
-    → Spells header (head_written marker sequence timestamp) (fields (rtp_fields marker sequence timestamp))
-unfolding header after_fixed spelled
+    → Spells rtp_front (head_written marker sequence timestamp) (fields (rtp_fields marker sequence timestamp))
+unfolding rtp_front after_fixed spelled
 header_written marker s t hs ht =
     let h = head_written marker s t in
     let text = fields (rtp_fields marker s t) in
@@ -78,7 +78,7 @@ header_written marker s t hs ht =
     } in
     let none : Spells (after_fixed h) tt (spelled 0 0 ++ []) = spells_field 0 any _ tt 0 [] (omega arith) refl
     (spells_done tt) in
-    spells_whole header h (text ++ ((spelled 0 0 ++ []) ++ [])) text (append-nil text)
+    spells_whole rtp_front h (text ++ ((spelled 0 0 ++ []) ++ [])) text (append-nil text)
     (spells_part head any _ h h text ((spelled 0 0 ++ []) ++ []) (head_spelt h ok) refl
     (spells_part (after_fixed h) any _ h tt (spelled 0 0 ++ []) [] none refl (spells_done h)))
 
@@ -106,7 +106,8 @@ written_again front payload marker s t hs ht text few =
       padding = [];
       parts = ap (λ (x : List ℕ). front ++ x) (sym (append-nil payload));
       short = omega (arith, length-append front payload, len);
-      text = spells_whole header (head_written marker s t) (fields (rtp_fields marker s t)) (bits_of front) (sym text)
+      text = spells_whole rtp_front (head_written marker s t) (fields (rtp_fields marker s t)) (bits_of front)
+          (sym text)
           (header_written marker s t hs ht);
       version = refl;
       type = refl;

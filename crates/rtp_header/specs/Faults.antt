@@ -8,8 +8,8 @@ use Rattle.h263_bits.specs.Syntax.{reading}
 use Rattle.rtp_header.specs.declared.rtp.Rtp.{Rtp}
 use Rattle.rtp_header.specs.Text.{Head, head, after_fixed, from_byte}
 
-abbrev pub fault_at : FaultKind → ℕ → Result Rtp Fault
-fault_at kind at = Err (record { kind = kind; at = at })
+abbrev pub rtp_fault_at : FaultKind → ℕ → Result Rtp Fault
+rtp_fault_at kind at = Err (record { kind = kind; at = at })
 
 -- the byte at which a reading stopped, if it was not cut
 abbrev pub end_of : Result (Unit {0} × Bits) Fault → Option ℕ
@@ -35,15 +35,15 @@ accepted_of h from to =
       timestamp = h.timestamp;
       from = from;
       to = to;
-    }) else fault_at faults.Source 64)
-    else fault_at faults.PayloadType 9
+    }) else rtp_fault_at faults.Source 64)
+    else rtp_fault_at faults.PayloadType 9
 
 -- the fixed header is too short, or sources and extension pass the end: the fault stands at the end
 abbrev pub short_of : List ℕ → Result Rtp Fault
-short_of bytes = fault_at faults.Short (8 * length bytes)
+short_of bytes = rtp_fault_at faults.Short (8 * length bytes)
 
 abbrev pub with_payload : List ℕ → Head → ℕ → Option ℕ → Result Rtp Fault
-with_payload bytes h from None = fault_at faults.Padding (8 * length bytes - 8)
+with_payload bytes h from None = rtp_fault_at faults.Padding (8 * length bytes - 8)
 with_payload bytes h from (Some to) = accepted_of h from to
 
 abbrev pub with_end : List ℕ → Head → Option ℕ → Result Rtp Fault
@@ -53,11 +53,11 @@ with_end bytes h (Some from) = with_payload bytes h from (payload_end_of h bytes
 abbrev pub with_head : List ℕ → Result (Head × Bits) Fault → Result Rtp Fault
 with_head bytes (Err e) = short_of bytes
 with_head bytes (Ok x) = if x.0.version == 2
-    then with_end bytes x.0 (end_of (reading (after_fixed x.0) x.1)) else fault_at faults.Version 0
+    then with_end bytes x.0 (end_of (reading (after_fixed x.0) x.1)) else rtp_fault_at faults.Version 0
 
 -- the packet that bytes spell, or its first fault
 unfoldable pub rtp_in : List ℕ → Result Rtp Fault
-rtp_in bytes = if nat_lt 65535 (length bytes) then fault_at faults.Long 0
+rtp_in bytes = if nat_lt 65535 (length bytes) then rtp_fault_at faults.Long 0
     else with_head bytes (reading head (from_byte 0 bytes))
 
 -- the first fault of a packet's RTP header, if there is one

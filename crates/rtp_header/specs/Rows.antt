@@ -5,7 +5,7 @@ use Rattle.h263_bits.specs.declared.fault.FaultKind.{FaultKind}
 use Rattle.h263_bits.specs.declared.fault.FaultKind.TheVariants as faults
 use Rattle.h263_bits.specs.Bits.{bits_of, fields}
 use Rattle.h263_bits.specs.Syntax.{Spells}
-use Rattle.rtp_header.specs.Text.{Head, head, header, IsPadding}
+use Rattle.rtp_header.specs.Text.{Head, head, rtp_front, IsPadding}
 
 -- the bytes are not too many, and begin with this fixed header; these bits come after it
 pub record Begins (bytes : List ℕ) (h : Head) (left : List Bool) : Type 0 where
@@ -33,11 +33,11 @@ pub record Carries (bytes : List ℕ) (h : Head) (rest : List ℕ) : Type 0 wher
   pub few : length bytes ≤ 65535
   pub version : h.version ≡ 2
   pub front : List ℕ
-  pub text : Spells header h (bits_of front)
+  pub text : Spells rtp_front h (bits_of front)
   pub parts : bytes ≡ front ++ rest
 
 -- these are a payload and the padding after it, which is there where P is set
-pub record IsWhole (bytes : List ℕ) (h : Head) : Type 0 where
+pub record IsWholePayload (bytes : List ℕ) (h : Head) : Type 0 where
   pub payload : List ℕ
   pub padding : List ℕ
   pub carries : Carries bytes h (payload ++ padding)
@@ -57,6 +57,6 @@ pub data IsRtpFault (bytes : List ℕ) : FaultKind → ℕ → Type 0 where
   padding : (h : Head) (rest : List ℕ) → Carries bytes h rest → (h.padding ≡ 0 → ⊥)
       → (slice_index bytes (length bytes - 1) ≡ 0) ⊎ (length rest < slice_index bytes (length bytes - 1))
       → IsRtpFault bytes faults.Padding (8 * length bytes - 8)
-  type : (h : Head) → IsWhole bytes h → (h.type ≡ 96 → ⊥) → IsRtpFault bytes faults.PayloadType 9
-  source : (h : Head) → IsWhole bytes h
+  type : (h : Head) → IsWholePayload bytes h → (h.type ≡ 96 → ⊥) → IsRtpFault bytes faults.PayloadType 9
+  source : (h : Head) → IsWholePayload bytes h
       → h.type ≡ 96 → (h.source ≡ 1211250227 → ⊥) → IsRtpFault bytes faults.Source 64

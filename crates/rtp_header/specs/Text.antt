@@ -58,8 +58,8 @@ after_fixed h =
     either (h.extension == 0) (done tt) extension
 
 -- all that stands in front of the payload
-unfoldable pub header : Syntax Head
-header =
+unfoldable pub rtp_front : Syntax Head
+rtp_front =
     part head any λ h.
     part (after_fixed h) any λ end.
     done h
@@ -81,7 +81,7 @@ pub record IsRtp (r : Rtp) (bytes : List ℕ) : Type 0 where
   pub padding : List ℕ
   pub parts : bytes ≡ front ++ (payload ++ padding)
   pub short : length bytes ≤ 65535
-  pub text : Spells header fields (bits_of front)
+  pub text : Spells rtp_front fields (bits_of front)
   pub version : fields.version ≡ 2
   pub type : fields.type ≡ 96
   pub source : fields.source ≡ 1211250227

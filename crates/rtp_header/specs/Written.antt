@@ -14,7 +14,7 @@ written_rtp marker sequence timestamp len =
     record { marker = marker; sequence = sequence; timestamp = timestamp; from = 12; to = 12 + len }
 
 -- the payload lies in the packet, after the fixed header
-pub record IsWithin (r : Rtp) (bytes : List ℕ) : Type 0 where
+pub record IsPayloadWithin (r : Rtp) (bytes : List ℕ) : Type 0 where
   pub fixed : 12 ≤ r.from
   pub order : r.from ≤ r.to
   pub end : r.to ≤ length bytes

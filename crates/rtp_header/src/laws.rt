@@ -5,7 +5,7 @@ ghost use Rattle.h263_bits.specs.declared.fault.Fault.{Fault};
 ghost use Rattle.rtp_header.specs.Text.{IsRtp};
 ghost use Rattle.rtp_header.specs.Faults.{rtp_in};
 ghost use Rattle.rtp_header.specs.Rows.{IsRtpFault};
-ghost use Rattle.rtp_header.specs.Written.{rtp_fields, written_rtp, IsWithin};
+ghost use Rattle.rtp_header.specs.Written.{rtp_fields, written_rtp, IsPayloadWithin};
 ghost use Rattle.rtp_header.specs.declared.rtp.Rtp.{Rtp};
 
 /// Bytes are read as a packet exactly where they spell it: there is no fault exactly where there is
@@ -28,7 +28,7 @@ pub fn one_reading()
 
 /// The payload lies in the packet, after 12 bytes at least.
 pub fn payload_within()
-    ensures { (r : Rtp) (bytes : List ℕ) → rtp_in bytes ≡ Ok r → IsWithin r bytes }
+    ensures { (r : Rtp) (bytes : List ℕ) → rtp_in bytes ≡ Ok r → IsPayloadWithin r bytes }
 {}
 
 /// What is written of a header is read again, whatever payload follows.

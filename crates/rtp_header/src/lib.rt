@@ -17,7 +17,7 @@ ghost use Rattle.h263_bits.specs.Reading.{Bits, first_fault};
 ghost use Rattle.h263_bits.specs.Syntax.{reading};
 ghost use Rattle.rtp_header.specs.Text.{Head, from_byte, head, after_fixed, IsRtp};
 ghost use Rattle.rtp_header.specs.Faults.{end_of, payload_end_of, accepted_of, rtp_in, rtp_fault};
-ghost use Rattle.rtp_header.specs.Written.{rtp_fields, written_rtp, IsWithin};
+ghost use Rattle.rtp_header.specs.Written.{rtp_fields, written_rtp, IsPayloadWithin};
 
 pub mod laws;
 mod rtp;
@@ -107,7 +107,7 @@ pub fn read(bytes: &[u8]) -> Result<Rtp, Fault>
     // Otherwise it is the first fault, at its place.
     ensures fault { first_fault result ≡ rtp_fault bytes.now }
     ensures exact { result ≡ rtp_in bytes.now }
-    ensures range { IfOk result (λ r. IsWithin r bytes.now) }
+    ensures range { IfOk result (λ r. IsPayloadWithin r bytes.now) }
 {
     if bytes.len() > 65_535 {
         return Err(FaultKind::Long.at(0));

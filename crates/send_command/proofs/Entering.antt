@@ -15,9 +15,9 @@ use Rattle.event_logs.specs.declared.fault.LogFault.{LogFault}
 use Rattle.event_logs.specs.declared.fault.LogFault.TheVariants.{BadRecord, TooMany}
 use Rattle.event_logs.specs.declared.fault.LogStop.{LogStop}
 use Rattle.event_logs.specs.declared.fault.LogStop.TheVariants as stops
-use Rattle.event_logs.specs.Entry.{entry_in, bytes_of}
+use Rattle.event_logs.specs.Entry.{entry_in, entry_size}
 use Rattle.event_logs.specs.Place.{LogPlace}
-use Rattle.event_logs.specs.Reader.{EntryGives, Moves}
+use Rattle.event_logs.specs.Reader.{EntryGives, MovesLog}
 use Rattle.call_report.specs.declared.status.Status.TheVariants.{Ok as Fine, LogRefused}
 use Rattle.call_report.specs.Status.{phase, log_stop}
 use Rattle.desk_program.specs.Run.{End, Step, left_after}
@@ -48,7 +48,7 @@ part_of_capture s [] k few = tt
 part_of_capture s (b ∷ video) k few = part_of_frame s _ (next_frame s.more s.params.format s.video_at (b ∷ video)) k few
 
 part_of_entry : (s : SendState) (inputs : Role → List ℕ) (e : Option Entry) (k : ℕ)
-    → ((entry : Entry) → e ≡ Some entry → 3 + bytes_of entry ≤ k → ⊥)
+    → ((entry : Entry) → e ≡ Some entry → 3 + entry_size entry ≤ k → ⊥)
     → IsPart (step_turns (sender_entry_step s inputs e)) (of Events k)
 part_of_entry s inputs None k few = tt
 part_of_entry s inputs (Some log_entry.Capture) k few = part_of_capture s (inputs Video) (of Events k)
@@ -63,14 +63,14 @@ part_of_entry s inputs (Some log_entry.Play) k few = tt
 
 abbrev pub CutAfter : Type 0
 CutAfter = (side : Side) (entry : Entry) (text : List ℕ) (k : ℕ) → entry_in side text ≡ Some entry
-    → 3 + bytes_of entry ≤ k → entry_in side (take k text) ≡ Some entry
+    → 3 + entry_size entry ≤ k → entry_in side (take k text) ≡ Some entry
 
 -- the step, where another entry may come or not
 abbrev chosen : Bool → SendState → (Role → List ℕ) → Option Entry → Step SendState
 chosen t s inputs e = if t then sender_entry_step s inputs e else Ends (bad_entry (TooMany s.at))
 
 part_of_choice : (t : Bool) (s : SendState) (inputs : Role → List ℕ) (e : Option Entry) (k : ℕ)
-    → ((entry : Entry) → e ≡ Some entry → 3 + bytes_of entry ≤ k → ⊥)
+    → ((entry : Entry) → e ≡ Some entry → 3 + entry_size entry ≤ k → ⊥)
     → IsPart (step_turns (chosen t s inputs e)) (of Events k)
 part_of_choice true s inputs e k few = part_of_entry s inputs e k few
 part_of_choice false s inputs e k few = tt
@@ -130,7 +130,7 @@ module _ (laws : TurnLaws) (cut : CutAfter) (s : SendState) (inputs : Role
   }
 
   pub log_stops : (stop : LogStop) → EntryGives (Err stop) reader (inputs Events) bytes (mid.left Events)
-      → Moves (Err stop) reader after
+      → MovesLog (Err stop) reader after
       → GivesUp (phase (log_stop stop)) (log_stop stop) (send_step s inputs) true inputs old mid
   log_stops stops.Read e moves = record {
     part = of Events e.taken;
@@ -181,8 +181,8 @@ module _ (laws : TurnLaws) (cut : CutAfter) (s : SendState) (inputs : Role
         entry_is s inputs (inputs Events) (Some found.1) (some_entry (inputs Events) found.1 is)
         (omega (arith, few, at.read_is)) is
 
-    pub found_told : Tells mid (left_after inputs (of Events (3 + bytes_of found.1)))
-    found_told = laws.one_read Events (3 + bytes_of found.1) old mid inputs told e.2 others
+    pub found_told : Tells mid (left_after inputs (of Events (3 + entry_size found.1)))
+    found_told = laws.one_read Events (3 + entry_size found.1) old mid inputs told e.2 others
 
 -- what the reader says, by what it answered
 pub gave_entry : (o known : Option (ℕ × Entry)) (reader : LogPlace) (rest bytes : List ℕ) (left : Option (List ℕ))
@@ -190,9 +190,9 @@ pub gave_entry : (o known : Option (ℕ × Entry)) (reader : LogPlace) (rest byt
 gave_entry o known reader rest bytes left is gives =
     subst (λ (x : Option (ℕ × Entry)). EntryGives (Ok x) reader rest bytes left) is gives
 
-pub moved_entry : (o known : Option (ℕ × Entry)) (reader after : LogPlace) → o ≡ known → Moves (Ok o) reader after
-    → Moves (Ok known) reader after
-moved_entry o known reader after is moves = subst (λ (x : Option (ℕ × Entry)). Moves (Ok x) reader after) is moves
+pub moved_entry : (o known : Option (ℕ × Entry)) (reader after : LogPlace) → o ≡ known → MovesLog (Ok o) reader after
+    → MovesLog (Ok known) reader after
+moved_entry o known reader after is moves = subst (λ (x : Option (ℕ × Entry)). MovesLog (Ok x) reader after) is moves
 
 -- an entry of a receiver's log is refused
 pub other_entry : (s : SendState) (inputs : Role → List ℕ) (place : ℕ) (entry : Entry)

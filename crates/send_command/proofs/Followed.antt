@@ -11,19 +11,19 @@ use Rattle.y4m.specs.declared.fault.Y4mFault.{Y4mFault}
 use Rattle.y4m.specs.Frame.{next_frame, frame_size}
 use Rattle.y4m.specs.Head.{head_of, head_size}
 use Rattle.y4m.specs.Laws.{FrameLaws}
-use Rattle.y4m.specs.Video.{after_frame, fault_after_head, fault_of as video_fault_of, frames_after_head, frames_of, video_fault, video_frames}
+use Rattle.y4m.specs.Video.{after_frame, fault_after_head, first_video_fault as video_fault_of, frames_after_head, frames_of, video_fault, video_frames}
 use Rattle.event_logs.specs.declared.entry.Side.TheVariants as sides
 use Rattle.event_logs.specs.declared.entry.Entry.{Entry}
 use Rattle.event_logs.specs.declared.entry.Entry.TheVariants as log_entry
 use Rattle.event_logs.specs.declared.fault.LogFault.{LogFault}
 use Rattle.event_logs.specs.declared.fault.LogFault.TheVariants.{BadRecord, TooMany}
-use Rattle.event_logs.specs.Entry.{begun, bytes_of, entry_in, entry_with, reach, reach_of}
-use Rattle.event_logs.specs.Log.{Found, fault_from, fault_of, found_from, found_of, log_entries, log_fault}
+use Rattle.event_logs.specs.Entry.{entry_begun, entry_size, entry_in, entry_with, reach, entry_reach}
+use Rattle.event_logs.specs.Log.{Found, log_fault_from, first_log_fault, found_from, found_of, log_entries, log_fault}
 use Rattle.call_report.specs.declared.status.Status.{Status}
 use Rattle.call_model.specs.Sending.{SenderEntry, Capture, Feedback}
 use Rattle.call_encoding.specs.Frames.{Frame}
 use Rattle.sender_end.specs.Stands.{packets_after}
-use Rattle.desk_program.specs.Run.{End, Run, Step, Turn, left_after, follow, run_from, run_of, silence, text_of, texts_of}
+use Rattle.desk_program.specs.Run.{End, Run, Step, Turn, left_after, follow, run_from, machine_run, silence, text_of, texts_of}
 use Rattle.desk_program.specs.Run.Step.{Ends}
 use Rattle.desk_program.specs.Texts.{and_of, no_texts, of, only_at_ok}
 use Rattle.fitted_sender.specs.declared.aim.Aim.{Aim}
@@ -70,18 +70,19 @@ IsSpelled = (log : List ℕ) (e : Entry) → entry_in sides.Send log ≡ Some e 
 
 -- it is whole, and reaches to the end of its bytes
 pub record IsWhole (log : List ℕ) (e : Entry) : Type 0 where
-  pub reaches : reach sides.Send log ≡ 3 + bytes_of e
-  pub within : 3 + bytes_of e ≤ length log
+  pub reaches : reach sides.Send log ≡ 3 + entry_size e
+  pub within : 3 + entry_size e ≤ length log
   pub own : IsSenders e
 
 whole : IsSpelled → (log : List ℕ) (e : Entry) → entry_in sides.Send log ≡ Some e → IsWhole log e
 whole spelled log e there = by_test (nat_lt (length log) (reach sides.Send log)) refl there
   where
-    by_test : (t : Bool) → nat_lt (length log) (reach sides.Send log) ≡ t → (if t then None else begun sides.Send log)
+    by_test : (t : Bool) → nat_lt (length log) (reach sides.Send log) ≡ t
+        → (if t then None else entry_begun sides.Send log)
         ≡ Some e → IsWhole log e
     by_test true few is = absurd (cc is)
     by_test false few is =
-        let reaches : reach sides.Send log ≡ 3 + bytes_of e = ap reach_of is in
+        let reaches : reach sides.Send log ≡ 3 + entry_size e = ap entry_reach is in
         let within : reach sides.Send log ≤ length log = ltb-false (length log) (reach sides.Send log) few in
         let parts = spelled log e there in
         record { reaches = reaches; within = omega (arith, reaches, within); own = of_letter parts.0 parts.1 e parts.2 }
@@ -220,25 +221,26 @@ module _ (p : Params) (aim : Aim) (spelled : IsSpelled) where
         (past2 : List (SenderEntry Frame)) (size video_at2 more2 : ℕ) (taken : Role → ℕ) (left : List ℕ)
         → left_after inputs taken Events ≡ drop size log → left_after inputs taken Video ≡ left
         → Comes (ahead_of more2 video_at2 left) past2 (found_of sides.Send n (at + size) (drop size log))
-        (fault_of sides.Send n (at + size) (drop size log)) (broken_of more2 video_at2 left)
+        (first_log_fault sides.Send n (at + size) (drop size log)) (broken_of more2 video_at2 left)
         (rest (state past2 (at + size) (read + 1) video_at2 more2) taken)
 
     module _ (log : List ℕ) (is_log : inputs Events ≡ log) (go : GoesOn log) where
       abbrev bytes : Entry → List ℕ
-      bytes e = take (bytes_of e) (drop 3 log)
+      bytes e = take (entry_size e) (drop 3 log)
 
       abbrev Takes : Entry → Step SendState → Type 0
       Takes e step =
-          Comes frames past (found_from (Some e) at log (found_of sides.Send n (at + (3 + bytes_of e))
-          (drop (3 + bytes_of e) log)))
-          (fault_from (Some e) at (fault_of sides.Send n (at + (3 + bytes_of e)) (drop (3 + bytes_of e) log))) broken
+          Comes frames past (found_from (Some e) at log (found_of sides.Send n (at + (3 + entry_size e))
+          (drop (3 + entry_size e) log)))
+          (log_fault_from (Some e) at (first_log_fault sides.Send n (at + (3 + entry_size e))
+          (drop (3 + entry_size e) log))) broken
           (follow step rest)
 
       abbrev laters : ℕ → List Found
       laters size = found_of sides.Send n (at + size) (drop size log)
 
       abbrev later_fault : ℕ → Option LogFault
-      later_fault size = fault_of sides.Send n (at + size) (drop size log)
+      later_fault size = first_log_fault sides.Send n (at + size) (drop size log)
 
       -- the capture that stands first
       abbrev this : Found
@@ -328,13 +330,14 @@ module _ (p : Params) (aim : Aim) (spelled : IsSpelled) where
       reached : (o : Option Entry) → entry_in sides.Send log ≡ o
           → Comes frames past (found_from o at log (found_of sides.Send n (at + reach sides.Send log)
           (drop (reach sides.Send log) log)))
-          (fault_from o at (fault_of sides.Send n (at + reach sides.Send log) (drop (reach sides.Send log) log))) broken
+          (log_fault_from o at (first_log_fault sides.Send n (at + reach sides.Send log)
+          (drop (reach sides.Send log) log))) broken
           (follow (sender_entry_step now inputs o) rest)
       reached None is = comes_stopped frames past [] (Some (BadRecord at)) broken rest _ _ (λ text. refl) refl refl
       reached (Some e) is =
           let w = whole spelled log e is in
           subst (λ (k : ℕ). Comes frames past (found_from (Some e) at log (found_of sides.Send n (at + k) (drop k log)))
-          (fault_from (Some e) at (fault_of sides.Send n (at + k) (drop k log))) broken
+          (log_fault_from (Some e) at (first_log_fault sides.Send n (at + k) (drop k log))) broken
           (follow (sender_entry_step now inputs (Some e)) rest)) (sym w.reaches)
           (entry_comes e w)
 
@@ -361,9 +364,9 @@ module _ (p : Params) (aim : Aim) (spelled : IsSpelled) where
           (λ next taken. silence) _ _ (λ text. refl) refl refl
 
       last_comes : (log : List ℕ) → read + 0 ≡ 16777216
-          → Comes still past (found_of sides.Send 0 at log) (fault_of sides.Send 0 at log) fault_there
+          → Comes still past (found_of sides.Send 0 at log) (first_log_fault sides.Send 0 at log) fault_there
           (follow (sender_log_step here inputs log) (λ next taken. silence))
-      unfolding found_of fault_of
+      unfolding found_of first_log_fault
       last_comes [] room = comes_end still past fault_there (λ next taken. silence)
       last_comes (b ∷ log) room = last_choice (nat_lt read 16777216) _ room refl
 
@@ -373,7 +376,7 @@ module _ (p : Params) (aim : Aim) (spelled : IsSpelled) where
             → nat_lt read 16777216 ≡ t
             → Comes still past (found_from (entry_in sides.Send log) at log
             (found_of sides.Send n (at + reach sides.Send log) (drop (reach sides.Send log) log)))
-            (fault_from (entry_in sides.Send log) at (fault_of sides.Send n (at + reach sides.Send log)
+            (log_fault_from (entry_in sides.Send log) at (first_log_fault sides.Send n (at + reach sides.Send log)
             (drop (reach sides.Send log) log))) fault_there
             (follow (or_many t at (sender_entry_step here inputs (entry_in sides.Send log))) rest)
         choice_comes false log is go room many = absurd (omega (arith, ltb-false read 16777216 many, room))
@@ -382,9 +385,10 @@ module _ (p : Params) (aim : Aim) (spelled : IsSpelled) where
 
         step_comes : (log : List ℕ) → inputs Events ≡ log
             → GoesOn frame_laws past at read video_at more inputs n rest log → read + suc n ≡ 16777216
-            → Comes still past (found_of sides.Send (suc n) at log) (fault_of sides.Send (suc n) at log) fault_there
+            → Comes still past (found_of sides.Send (suc n) at log) (first_log_fault sides.Send (suc n) at log)
+            fault_there
             (follow (sender_log_step here inputs log) rest)
-        unfolding found_of fault_of
+        unfolding found_of first_log_fault
         step_comes [] is go room = comes_end still past fault_there rest
         step_comes (b ∷ log) is go room = choice_comes (nat_lt read 16777216) (b ∷ log) is go room refl
 
@@ -394,22 +398,23 @@ module _ (p : Params) (aim : Aim) (spelled : IsSpelled) where
     run_comes : (n : ℕ) (past : List (SenderEntry Frame)) (at read video_at more : ℕ) (inputs : Role → List ℕ)
         → read + n ≡ 16777216
         → Comes (ahead_of more video_at (inputs Video)) past (found_of sides.Send n at (inputs Events))
-        (fault_of sides.Send n at (inputs Events)) (broken_of more video_at (inputs Video))
-        (run_of send_step n (state past at read video_at more) inputs)
-    unfolding run_of
+        (first_log_fault sides.Send n at (inputs Events)) (broken_of more video_at (inputs Video))
+        (machine_run send_step n (state past at read video_at more) inputs)
+    unfolding machine_run
     run_comes zero past at read video_at more inputs room = last_comes past at read video_at more inputs
         (inputs Events) room
     run_comes (suc n) past at read video_at more inputs room =
-        step_comes past at read video_at more inputs n (λ next taken. run_of send_step n next (left_after inputs taken))
+        step_comes past at read video_at more inputs n (λ next taken. machine_run send_step n next
+        (left_after inputs taken))
         (inputs Events) refl
         (λ past2 size video_at2 more2 taken left gone seen.
         subst (λ (l : List ℕ). Comes (ahead_of more2 video_at2 left) past2 (found_of sides.Send n (at + size) l)
-        (fault_of sides.Send n (at + size) l) (broken_of more2 video_at2 left)
-        (run_of send_step n (state past2 (at + size) (read + 1) video_at2 more2) (left_after inputs taken))) gone
+        (first_log_fault sides.Send n (at + size) l) (broken_of more2 video_at2 left)
+        (machine_run send_step n (state past2 (at + size) (read + 1) video_at2 more2) (left_after inputs taken))) gone
         (subst (λ (l : List ℕ). Comes (ahead_of more2 video_at2 l) past2
         (found_of sides.Send n (at + size) (left_after inputs taken Events))
-        (fault_of sides.Send n (at + size) (left_after inputs taken Events)) (broken_of more2 video_at2 l)
-        (run_of send_step n (state past2 (at + size) (read + 1) video_at2 more2) (left_after inputs taken))) seen
+        (first_log_fault sides.Send n (at + size) (left_after inputs taken Events)) (broken_of more2 video_at2 l)
+        (machine_run send_step n (state past2 (at + size) (read + 1) video_at2 more2) (left_after inputs taken))) seen
         (run_comes n past2 (at + size) (read + 1) video_at2 more2 (left_after inputs taken) (one_less read n room))))
         room
 
@@ -439,7 +444,7 @@ module _ (spelled : IsSpelled) (setup : Sending) (f : Format) (frame_laws : Fram
   video = inputs Video
 
   abbrev on_rest : SendState → (Role → ℕ) → Run
-  on_rest next taken = run_of send_step 16777216 next (left_after inputs taken)
+  on_rest next taken = machine_run send_step 16777216 next (left_after inputs taken)
 
   abbrev run : Run
   run = on_rest (send_at_start setup f (head_size video)) (of Video (head_size video))
@@ -448,14 +453,14 @@ module _ (spelled : IsSpelled) (setup : Sending) (f : Format) (frame_laws : Fram
   all = sender_film here_params (video_frames video)
 
   comes : Comes here_params here_aim spelled all [] (found_of sides.Send 16777216 0 (inputs Events))
-      (fault_of sides.Send 16777216 0 (inputs Events)) (video_fault video) run
+      (first_log_fault sides.Send 16777216 0 (inputs Events)) (video_fault video) run
   comes =
       subst (λ (l : List (List ℕ)). Comes here_params here_aim spelled (sender_film here_params l) []
-      (found_of sides.Send 16777216 0 (inputs Events)) (fault_of sides.Send 16777216 0 (inputs Events))
+      (found_of sides.Send 16777216 0 (inputs Events)) (first_log_fault sides.Send 16777216 0 (inputs Events))
       (video_fault video) run) (sym (frames_are video f head))
       (subst (λ (o : Option Y4mFault). Comes here_params here_aim spelled
       (sender_film here_params (frames_of f 1048576 (head_size video) (drop (head_size video) video))) []
-      (found_of sides.Send 16777216 0 (inputs Events)) (fault_of sides.Send 16777216 0 (inputs Events)) o run)
+      (found_of sides.Send 16777216 0 (inputs Events)) (first_log_fault sides.Send 16777216 0 (inputs Events)) o run)
       (sym (fault_is video f head))
       (run_comes here_params here_aim spelled frame_laws 16777216 [] 0 0 (head_size video) 1048576
       (left_after inputs (of Video (head_size video))) (more_bytes 16777216)))

@@ -14,7 +14,7 @@ use Rattle.y4m.specs.declared.fault.VideoStop.TheVariants.{Read, Refused}
 use Rattle.y4m.specs.Place.{Y4mPlace}
 use Rattle.y4m.specs.Frame.{frame_of, next_frame, frame_size}
 use Rattle.y4m.specs.Video.{most_frames}
-use Rattle.y4m.specs.Reader.{FrameGives, Moves}
+use Rattle.y4m.specs.Reader.{FrameGives, MovesVideo}
 use Rattle.event_logs.specs.declared.fault.LogFault.TheVariants.{NoFrame}
 use Rattle.call_report.specs.declared.status.Status.TheVariants.{VideoRefused, LogRefused}
 use Rattle.call_report.specs.Status.{phase, video_stop}
@@ -179,9 +179,9 @@ pub gave : (b known : Bool) (reader after : Y4mPlace) (rest out : List ℕ) (lef
 gave b known reader after rest out left is gives = subst (λ (x : Bool). FrameGives (Ok x) reader rest out after left) is
     gives
 
-pub moved : (b known : Bool) (reader after : Y4mPlace) → b ≡ known → Moves (Ok b) reader after
-    → Moves (Ok known) reader after
-moved b known reader after is moves = subst (λ (x : Bool). Moves (Ok x) reader after) is moves
+pub moved : (b known : Bool) (reader after : Y4mPlace) → b ≡ known → MovesVideo (Ok b) reader after
+    → MovesVideo (Ok known) reader after
+moved b known reader after is moves = subst (λ (x : Bool). MovesVideo (Ok x) reader after) is moves
 
 -- a buffer that was lent whole holds what was put there
 pub lent : (v : Vec ℕ Global) (l got : List ℕ) (n : ℕ) → got ≡ (with_items v l).items → length l ≡ n → n ≡ v.len

@@ -13,9 +13,9 @@ use Rattle.event_logs.specs.declared.entry.Side.TheVariants as sides
 use Rattle.event_logs.specs.declared.entry.Side.{Side}
 use Rattle.event_logs.specs.declared.entry.Entry.{Entry}
 use Rattle.event_logs.specs.declared.entry.Entry.TheVariants.{Back}
-use Rattle.event_logs.specs.Entry.{begun, bytes_of, entry_in, reach, reach_of}
+use Rattle.event_logs.specs.Entry.{entry_begun, entry_size, entry_in, reach, entry_reach}
 use Rattle.event_logs.specs.Place.{LogPlace, IsInLog}
-use Rattle.event_logs.specs.Reader.{EntryGives, Moves}
+use Rattle.event_logs.specs.Reader.{EntryGives, MovesLog}
 use Rattle.y4m.specs.Place.{Y4mPlace}
 use Rattle.call_model.specs.Sending.{Reply, feedback_answer}
 use Rattle.call_decoding.specs.Rules.{rules_of}
@@ -190,30 +190,30 @@ module _ (m : Send) (s : SendState) (inputs : Role → List ℕ) (stands : SendS
 pub record IsAfter (m : Send) (s : SendState) (inputs : Role → List ℕ) (old mid : Outside) (log : LogPlace)
     (bytes : Vec ℕ Global) (buf : List ℕ) (place : ℕ) (entry : Entry) : Type 0 where
   pub step_is : send_step s inputs ≡ sender_entry_step s inputs (Some entry)
-  pub stood : SenderStoodBefore (record m { log = log; bytes = bytes }) s (3 + bytes_of entry)
-  pub taken : HasTakenEntry (3 + bytes_of entry) inputs old mid
+  pub stood : SenderStoodBefore (record m { log = log; bytes = bytes }) s (3 + entry_size entry)
+  pub taken : HasTakenEntry (3 + entry_size entry) inputs old mid
   pub place_is : place ≡ s.at
-  pub bytes_are : take (bytes_of entry) buf ≡ take (bytes_of entry) (drop 3 (inputs Events))
-  pub whole : length (take (bytes_of entry) (drop 3 (inputs Events))) ≡ bytes_of entry
+  pub bytes_are : take (entry_size entry) buf ≡ take (entry_size entry) (drop 3 (inputs Events))
+  pub whole : length (take (entry_size entry) (drop 3 (inputs Events))) ≡ entry_size entry
 
 entry_whole : (side : Side) (text : List ℕ) (entry : Entry) → entry_in side text ≡ Some entry
-    → length (take (bytes_of entry) (drop 3 text)) ≡ bytes_of entry
+    → length (take (entry_size entry) (drop 3 text)) ≡ entry_size entry
 entry_whole side text entry is = at_test (nat_lt (length text) (reach side text)) refl
   where
-    begins : (t : Bool) → nat_lt (length text) (reach side text) ≡ t → (if t then None else begun side text)
+    begins : (t : Bool) → nat_lt (length text) (reach side text) ≡ t → (if t then None else entry_begun side text)
         ≡ Some entry
-    begins t same = ap (λ (t : Bool). if t then None else begun side text) (sym same) ∙ is
+    begins t same = ap (λ (t : Bool). if t then None else entry_begun side text) (sym same) ∙ is
 
     enough : (k : ℕ) (l : List ℕ) → 3 + k ≤ length l → length (take k (drop 3 l)) ≡ k
     enough k l long = length-take-le k (drop 3 l) (omega (arith, long, length-drop 3 l))
 
-    at_test : (t : Bool) → nat_lt (length text) (reach side text) ≡ t → length (take (bytes_of entry) (drop 3 text))
-        ≡ bytes_of entry
+    at_test : (t : Bool) → nat_lt (length text) (reach side text) ≡ t → length (take (entry_size entry) (drop 3 text))
+        ≡ entry_size entry
     at_test true same = absurd (cc (begins true same))
     at_test false same =
-        let began : begun side text ≡ Some entry = begins false same in
-        let far : reach side text ≡ 3 + bytes_of entry = ap reach_of began in
-        enough (bytes_of entry) text (omega (arith, far, ltb-false (length text) (reach side text) same))
+        let began : entry_begun side text ≡ Some entry = begins false same in
+        let far : reach side text ≡ 3 + entry_size entry = ap entry_reach began in
+        enough (entry_size entry) text (omega (arith, far, ltb-false (length text) (reach side text) same))
 
 pub is_after : (laws : TurnLaws) (cut : CutAfter) (m : Send) (s : SendState) (inputs : Role
     → List ℕ) (stands : SendStands m s inputs) (old mid : Outside) (told : Tells old inputs) (others : (r : Role)
@@ -221,14 +221,14 @@ pub is_after : (laws : TurnLaws) (cut : CutAfter) (m : Send) (s : SendState) (in
     (side : m.log.side ≡ sides.Send) (log : LogPlace) (within : IsInLog log) (bytes : Vec ℕ Global) (buf : List ℕ)
     (place : ℕ) (entry : Entry)
     → EntryGives (Ok (Some (place, entry))) m.log (inputs Events) buf (mid.left Events)
-    → Moves (Ok (Some (place, entry))) m.log log
+    → MovesLog (Ok (Some (place, entry))) m.log log
     → IsAfter m s inputs old mid log bytes buf place entry
 is_after laws cut m s inputs stands old mid told others same side log within bytes buf place entry e moves =
     let at = read_at m s inputs stands side in
     let few : m.log.entries < 16777216 = omega (arith, within.few, moves.2) in
     record {
       step_is = found_is laws cut s inputs old mid told others same m.log log at buf (place, entry) e few;
-      stood = stood_before m s inputs stands log bytes (3 + bytes_of entry) moves.3 moves.2;
+      stood = stood_before m s inputs stands log bytes (3 + entry_size entry) moves.3 moves.2;
       taken = record {
         left = found_told laws cut s inputs old mid told others same m.log log at buf (
           place,

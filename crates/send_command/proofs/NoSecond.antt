@@ -11,7 +11,7 @@ use Rattle.event_logs.specs.declared.entry.Entry.{Entry}
 use Rattle.event_logs.specs.declared.entry.Entry.TheVariants as log_entry
 use Rattle.event_logs.specs.Entry.{entry_in}
 use Rattle.call_report.specs.declared.status.Status.TheVariants.{Video2Refused}
-use Rattle.desk_program.specs.Run.{Run, left_after, follow, run_of, run_from, silence}
+use Rattle.desk_program.specs.Run.{Run, left_after, follow, machine_run, run_from, silence}
 use Rattle.send_command.specs.declared.sending.Sending.{Sending}
 use Rattle.send_command.specs.Send.{SendState, send_begin, send_step, sender_log_step, sender_entry_step, entry_capture_step, sender_frame_step, send_head_step, most_entries}
 
@@ -45,13 +45,13 @@ module _ (fault : Y4mFault) where
         within true is ends = at_entry (entry_in sides.Send (b ∷ log)) (rw is at ends)
         within false is ends = absurd (cc (rw is at ends))
 
-  run_refuses_none : (n : ℕ) (s : SendState) (inputs : Role → List ℕ) → (run_of send_step n s inputs).last.status
+  run_refuses_none : (n : ℕ) (s : SendState) (inputs : Role → List ℕ) → (machine_run send_step n s inputs).last.status
       ≡ Video2Refused fault → ⊥
-  unfolding run_of
+  unfolding machine_run
   run_refuses_none zero s inputs ends = at_log s inputs (λ next taken. silence) (λ next taken is. absurd (cc is))
       (inputs Events) ends
   run_refuses_none (suc n) s inputs ends =
-      at_log s inputs (λ next taken. run_of send_step n next (left_after inputs taken))
+      at_log s inputs (λ next taken. machine_run send_step n next (left_after inputs taken))
       (λ next taken is. run_refuses_none n next (left_after inputs taken) is) (inputs Events) ends
 
   pub none_refused : (setup : Sending) (inputs : Role → List ℕ)
@@ -59,7 +59,8 @@ module _ (fault : Y4mFault) where
   none_refused setup inputs ends = by_head (head_of (inputs Video)) ends
     where
       by_head : (r : Result Format Y4mFault)
-          → (follow (send_head_step setup (head_size (inputs Video)) r) (λ next taken. run_of send_step 16777216 next
+          → (follow (send_head_step setup (head_size (inputs Video)) r)
+          (λ next taken. machine_run send_step 16777216 next
           (left_after inputs taken))).last.status ≡ Video2Refused fault → ⊥
       by_head (Ok f) ends = run_refuses_none 16777216 _ _ ends
       by_head (Err broken) ends = absurd (cc ends)

@@ -7,13 +7,13 @@ use Rattle.y4m.specs.declared.fault.Y4mFault.{Y4mFault}
 use Rattle.y4m.specs.Frame.{next_frame, frame_size}
 use Rattle.y4m.specs.Head.{head_of, head_size}
 use Rattle.y4m.specs.Laws.{FrameLaws}
-use Rattle.y4m.specs.Video.{fault_of, fault_after_head, video_fault}
+use Rattle.y4m.specs.Video.{first_video_fault, fault_after_head, video_fault}
 use Rattle.event_logs.specs.declared.entry.Side.TheVariants as sides
 use Rattle.event_logs.specs.declared.entry.Entry.{Entry}
 use Rattle.event_logs.specs.declared.entry.Entry.TheVariants as log_entry
 use Rattle.event_logs.specs.Entry.{entry_in}
 use Rattle.call_report.specs.declared.status.Status.TheVariants.{VideoRefused}
-use Rattle.desk_program.specs.Run.{Run, left_after, follow, run_of, run_from, silence}
+use Rattle.desk_program.specs.Run.{Run, left_after, follow, machine_run, run_from, silence}
 use Rattle.desk_program.specs.Texts.{of, and_of}
 use Rattle.send_command.specs.declared.sending.Sending.{Sending}
 use Rattle.send_command.specs.Send.{SendState, captured, send_begin, send_step, sender_log_step, sender_entry_step, entry_capture_step, sender_frame_step, send_head_step, after_captured_frame, send_at_start, most_entries}
@@ -28,9 +28,9 @@ module _ (frame_laws : FrameLaws) (fault : Y4mFault) where
 
   module _ (s : SendState) (inputs : Role → List ℕ) (rest : SendState → (Role → ℕ) → Run)
       (more : (next : SendState) (taken : Role → ℕ) → (rest next taken).last.status ≡ VideoRefused fault
-      → fault_of next.params.format next.more next.video_at (left_after inputs taken Video) ≡ Some fault) where
+      → first_video_fault next.params.format next.more next.video_at (left_after inputs taken Video) ≡ Some fault) where
     abbrev faulty : List ℕ → Type 0
-    faulty video = fault_of s.params.format s.more s.video_at video ≡ Some fault
+    faulty video = first_video_fault s.params.format s.more s.video_at video ≡ Some fault
 
     at_frame : (b : ℕ) (v : List ℕ) → inputs Video ≡ b ∷ v → (r : Result (List ℕ) Y4mFault)
         → next_frame s.more s.params.format s.video_at (b ∷ v) ≡ r
@@ -43,7 +43,7 @@ module _ (frame_laws : FrameLaws) (fault : Y4mFault) where
         (some_left s.more s.video_at f (b ∷ v) planes is) (omega arith) is in
         let taken : 0 + size ≡ size = omega arith in
         e.fault
-        ∙ sym (λ i. fault_of f (s.more - 1) (s.video_at + size) (drop (taken i) (video i)))
+        ∙ sym (λ i. first_video_fault f (s.more - 1) (s.video_at + size) (drop (taken i) (video i)))
         ∙ more (after_captured_frame s size (captured f planes)) (and_of (of Events 3) (of Video size)) ends
     at_frame b v video (Err broken) is ends =
         (frame_laws.stops s.params.format s.more s.video_at (b ∷ v) broken (omega arith) is).1
@@ -73,14 +73,14 @@ module _ (frame_laws : FrameLaws) (fault : Y4mFault) where
         within true is ends = at_entry (entry_in sides.Send (b ∷ log)) (rw is at ends)
         within false is ends = absurd (cc (rw is at ends))
 
-  run_refused : (n : ℕ) (s : SendState) (inputs : Role → List ℕ) → (run_of send_step n s inputs).last.status
+  run_refused : (n : ℕ) (s : SendState) (inputs : Role → List ℕ) → (machine_run send_step n s inputs).last.status
       ≡ VideoRefused fault
-      → fault_of s.params.format s.more s.video_at (inputs Video) ≡ Some fault
-  unfolding run_of
+      → first_video_fault s.params.format s.more s.video_at (inputs Video) ≡ Some fault
+  unfolding machine_run
   run_refused zero s inputs ends = at_log s inputs (λ next taken. silence) (λ next taken is. absurd (cc is))
       (inputs Events) ends
   run_refused (suc n) s inputs ends =
-      at_log s inputs (λ next taken. run_of send_step n next (left_after inputs taken))
+      at_log s inputs (λ next taken. machine_run send_step n next (left_after inputs taken))
       (λ next taken is. run_refused n next (left_after inputs taken) is) (inputs Events) ends
 
   pub video_refused : (setup : Sending) (inputs : Role → List ℕ)
@@ -90,7 +90,8 @@ module _ (frame_laws : FrameLaws) (fault : Y4mFault) where
   video_refused setup inputs ends = by_head (head_of (inputs Video)) refl ends
     where
       by_head : (r : Result Format Y4mFault) → head_of (inputs Video) ≡ r
-          → (follow (send_head_step setup (head_size (inputs Video)) r) (λ next taken. run_of send_step 16777216 next
+          → (follow (send_head_step setup (head_size (inputs Video)) r)
+          (λ next taken. machine_run send_step 16777216 next
           (left_after inputs taken))).last.status ≡ VideoRefused fault
           → fault_after_head r (head_size (inputs Video)) (drop (head_size (inputs Video)) (inputs Video)) ≡ Some fault
       by_head (Ok f) is ends = run_refused 16777216 (send_at_start setup f (head_size (inputs Video)))

@@ -32,7 +32,7 @@ use Rattle.desk_program.specs.Run.Step.{Goes, Ends}
 use Rattle.desk_program.specs.Texts.{no_bytes, no_texts, on, then_also, of, and_of}
 use Rattle.send_command.specs.declared.sending.Sending.{Sending}
 use Rattle.send_command.specs.declared.tally.Tally.{Tally}
-use Rattle.fitted_sender.specs.Aiming.{Sent, after_heard, after_sent, next_sent}
+use Rattle.fitted_sender.specs.Aiming.{Sent, sent_after_heard, after_sent, next_sent}
 use Rattle.send_command.specs.Aimed.{aim_at_start}
 use Rattle.send_command.specs.Tally.{nothing_sent_counted, with_sent_picture, with_reply, sender_counts}
 
@@ -128,7 +128,7 @@ abbrev pub after_heard_feedback : SendState → List ℕ → SendState
 after_heard_feedback s bytes =
     record {
       params = s.params;
-      sent = after_heard s.params bytes s.sent;
+      sent = sent_after_heard s.params bytes s.sent;
       tally = with_reply (feedback_answer (rules_of s.params) (length s.sent.run.run.coded)
           (read_message s.params.clock bytes)) s.tally;
       at = s.at + (3 + length bytes);

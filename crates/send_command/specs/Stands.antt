@@ -11,7 +11,7 @@ use Rattle.event_logs.specs.declared.entry.Side.TheVariants as sides
 use Rattle.call_encoding.specs.Frames.{Frame}
 use Rattle.sender_end.specs.declared.answers.Coded.{Coded}
 use Rattle.sender_end.specs.State.{SenderState}
-use Rattle.sender_end.specs.Stands.{Holds, Run, packets_after}
+use Rattle.sender_end.specs.Stands.{Holds, SentRun, packets_after}
 use Rattle.desk_program.specs.Run.{left_after}
 use Rattle.desk_program.specs.Ends.{Tells}
 use Rattle.desk_program.specs.Texts.{of}
@@ -25,7 +25,7 @@ use Rattle.send_command.specs.Tally.{IsOf}
 use Rattle.send_command.specs.Send.{SendState}
 
 -- it may begin: the parameters and the targets are in their ranges, and the roles attached
-pub record CanSend (setup : Sending) (attached : Role → Bool) : Type 0 where
+pub record SendOpens (setup : Sending) (attached : Role → Bool) : Type 0 where
   pub params : IsParams setup.params
   pub some : IfSome setup.target (λ n. 1 ≤ n)
   pub few : IfSome setup.target (λ n. n ≤ 999999)
@@ -36,7 +36,7 @@ pub record CanSend (setup : Sending) (attached : Role → Bool) : Type 0 where
   pub report : attached Report ≡ true
 
 -- the state that the machine keeps in mind, but for the run of its sender
-abbrev pub send_state_of : Send → Run → SendState
+abbrev pub send_state_of : Send → SentRun → SendState
 send_state_of m run =
     record {
       params = m.sender.params;

@@ -144,7 +144,7 @@ impl Begins for Send {
     ghost use Rattle.h263_outside.specs.declared.desk.Role.TheVariants.{Events};
     ghost use Rattle.desk_program.specs.Run.{run_from};
     ghost use Rattle.send_command.specs.Send.{most_entries, send_begin, send_step};
-    ghost use Rattle.send_command.specs.Stands.{CanSend};
+    ghost use Rattle.send_command.specs.Stands.{SendOpens};
 
     type Setup = Sending;
 
@@ -153,7 +153,7 @@ impl Begins for Send {
     ghost run = { λ setup inputs. run_from (send_begin setup inputs) send_step most_entries
         inputs };
 
-    ghost opens = { CanSend };
+    ghost opens = { SendOpens };
 
     ghost source = { λ _. Some Events };
 

@@ -1,6 +1,6 @@
 //! The counts of a run.
 ghost use Rattle.std.specs.Prelude.{◌≡◌, ◌+◌, ◌<◌, ◌^◌};
-ghost use Rattle.call_report.specs.View.{text_of};
+ghost use Rattle.call_report.specs.View.{line_text};
 ghost use Rattle.sender_end.specs.Stands.{reply_of};
 ghost use Rattle.send_command.specs.Tally.{sender_counts, nothing_sent_counted, with_sent_picture, with_reply};
 
@@ -57,7 +57,7 @@ impl Tally {
 
     /// The line of the counts.
     pub fn line(&self) -> Line
-        ensures { text_of result ≡ sender_counts self.now }
+        ensures { line_text result ≡ sender_counts self.now }
     {
         let mut line = Line::empty();
         line.pair("sent", self.sent as u64);

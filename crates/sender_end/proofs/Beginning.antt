@@ -2,7 +2,7 @@
 use Rattle.std.proofs.Common.{All, ◌≡◌, ℕ, ◌+◌, ◌≤◌, false, refl, sym, subst, arith, List, [], length}
 use Rattle.h263_types.specs.Params.{IsParams}
 use Rattle.h263_planes.specs.Picture.{Picture}
-use Rattle.packet_cutter.specs.Cutting.{format_of, limit_of, packets_of}
+use Rattle.packet_cutter.specs.Cutting.{cut_format, limit_of, cutter_packets}
 use Rattle.picture_store.specs.Pictures.{picture_in, slots_of}
 use Rattle.reference_selector.specs.Stands.{SelectorStands}
 use Rattle.call_model.specs.SenderStanding.{NewSenderStands}
@@ -13,7 +13,7 @@ use Rattle.call_decoding.specs.Samples.{pictures}
 use Rattle.call_encoding.specs.Encoding.{encoding}
 use Rattle.sender_end.specs.declared.sender.Sender.TheInside.{Inside}
 use Rattle.sender_end.specs.Parts.{IsReady}
-use Rattle.sender_end.specs.Stands.{Holds, IsSeen, Stands}
+use Rattle.sender_end.specs.Stands.{Holds, IsSeen, PacedStands}
 use Rattle.sender_end.specs.State.{SenderState}
 use Rattle.sender_end.proofs.Keeping.{own_numbers}
 
@@ -50,7 +50,7 @@ module _ {P : Type 0} (state : SenderState P) (new : IsNew state) where
   }
 
   pub stands_new : (pace : List ℕ → ℕ) → NewSenderStands (pictures state.params.format) (encoding state.params)
-      (rules_of state.params) → Stands pace state []
+      (rules_of state.params) → PacedStands pace state []
   stands_new pace stands = record {
     s = unsent;
     seen = seen_new;
@@ -68,9 +68,9 @@ module _ {P : Type 0} (state : SenderState P) (new : IsNew state) where
   }
 
 -- its parts fit each other, if its cutter and its store do
-pub ready_new : {P : Type 0} (s : Inside P) → 0 ≡ s.sent → IsParams s.params → format_of s.cutter ≡ s.params.format
+pub ready_new : {P : Type 0} (s : Inside P) → 0 ≡ s.sent → IsParams s.params → cut_format s.cutter ≡ s.params.format
     → limit_of s.cutter ≡ s.params.limit
-    → packets_of s.cutter ≡ [] → s.store.store.format ≡ s.params.format → slots_of s.store.store ≡ s.params.slots
+    → cutter_packets s.cutter ≡ [] → s.store.store.format ≡ s.params.format → slots_of s.store.store ≡ s.params.slots
     → length s.store.store.pictures ≡ s.params.slots + 1
     → SelectorStands (rules_of s.params) s.selector s.sent (λ m. 0) (λ m. false) → IsReady s
 ready_new s none params cutter_format cutter_limit packets store_format slots works selects = record {

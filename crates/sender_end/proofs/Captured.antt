@@ -4,7 +4,7 @@ use Rattle.std.specs.Option.{option_map, option_map_or}
 use Rattle.h263_types.specs.declared.blocks.Mb.{Mb}
 use Rattle.h263_types.specs.declared.params.Params.{Params}
 use Rattle.h263_planes.specs.Picture.{Picture}
-use Rattle.call_model.specs.Coding.{reconstruction}
+use Rattle.call_model.specs.Coding.{decoded_picture}
 use Rattle.call_model.specs.CodedPictures.{Coded, reference_for}
 use Rattle.call_model.specs.Sending.{header_of}
 use Rattle.call_model.specs.Stands.{Sender}
@@ -38,7 +38,7 @@ made p frame reference depth quant before =
       depth = depth;
       style = style;
       slices = (encoding p).cut style mbs;
-      picture = reconstruction (pictures p.format) style before mbs;
+      picture = decoded_picture (pictures p.format) style before mbs;
     }
 
 -- it is made by what is kept, if all these are so

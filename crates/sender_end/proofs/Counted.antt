@@ -6,7 +6,7 @@ use Rattle.reference_selector.specs.Stands.{SelectorStands}
 use Rattle.call_model.specs.CodedPictures.{is_among}
 use Rattle.call_decoding.specs.Rules.{rules_of}
 use Rattle.sender_end.specs.Known.{count_below, known_in}
-use Rattle.sender_end.specs.Stands.{Holds, Run}
+use Rattle.sender_end.specs.Stands.{Holds, SentRun}
 use Rattle.sender_end.specs.State.{SenderState}
 
 -- tests that agree below a bound count the same
@@ -69,7 +69,7 @@ serves_as sent window first m since kept known begins same = go (leb first m) re
         rw (before, lt-leb sent (m + window) high) refl
 
 -- where a sender holds this run, those that it counts are those of the run
-pub counted_is : {P : Type 0} (state : SenderState P) (run : Run) (first count : ℕ) → Holds state run
+pub counted_is : {P : Type 0} (state : SenderState P) (run : SentRun) (first count : ℕ) → Holds state run
     → first ≡ state.sent - (state.params.slots - state.params.lead - 1)
     → ((depth : ℕ → ℕ) (known : ℕ → Bool) → SelectorStands (rules_of state.params) state.selector state.sent depth known
     → state.sent ≤ first + state.params.slots

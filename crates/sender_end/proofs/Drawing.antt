@@ -7,7 +7,7 @@ use Rattle.h263_types.specs.declared.format.Format.{Format}
 use Rattle.h263_planes.specs.Picture.{Picture}
 use Rattle.picture_recon.specs.Samples.{reconstruction}
 use Rattle.picture_recon.specs.Undrawn.{undrawn_mbs}
-use Rattle.picture_store.specs.Pictures.{Pictures, IsEmpty, Keeps, picture_in, slot_of, slots_of, work_in}
+use Rattle.picture_store.specs.Pictures.{StoredPictures, IsEmpty, Keeps, picture_in, slot_of, slots_of, work_in}
 use Rattle.sender_end.specs.Coding.{IsCodedInto}
 use Rattle.sender_end.specs.Late.{AreDrawn, AreKeptAs, AreLate, CanBeDrawn, once_drawn, pictures_once_drawn, quant_at, store_once_drawn}
 
@@ -25,12 +25,13 @@ drawn_later (suc q) p some = refl
 
 -- ---- its pictures
 
-pub as_many : (quants : List ℕ) (store : Pictures) → length (pictures_once_drawn quants store) ≡ length store.pictures
+pub as_many : (quants : List ℕ) (store : StoredPictures) → length (pictures_once_drawn quants store)
+    ≡ length store.pictures
 unfolding pictures_once_drawn
 as_many quants store = length-map-range_with_len (λ k. once_drawn (quant_at quants k) (picture_in store k)) 0
     (length store.pictures)
 
-pub seen_at : (quants : List ℕ) (store : Pictures) (k : ℕ) → k < length store.pictures
+pub seen_at : (quants : List ℕ) (store : StoredPictures) (k : ℕ) → k < length store.pictures
     → picture_in (store_once_drawn quants store) k ≡ once_drawn (quant_at quants k) (picture_in store k)
 unfolding pictures_once_drawn
 seen_at quants store k below =
@@ -38,7 +39,7 @@ seen_at quants store k below =
     _ below (omega arith)
 
 -- one that is drawn
-pub seen_drawn : (quants : List ℕ) (store : Pictures) (k : ℕ) → k < length store.pictures → quant_at quants k ≡ 0
+pub seen_drawn : (quants : List ℕ) (store : StoredPictures) (k : ℕ) → k < length store.pictures → quant_at quants k ≡ 0
     → picture_in (store_once_drawn quants store) k ≡ picture_in store k
 seen_drawn quants store k below none = seen_at quants store k below
     ∙ drawn_already (quant_at quants k) (picture_in store k) none
@@ -48,7 +49,7 @@ same_drawn a b = λ i. once_drawn (a i) (b i)
 
 -- ---- the kept pictures
 
-pub kept_as : (quants more : List ℕ) (old new : Pictures) → length old.pictures ≡ slots_of old + 1
+pub kept_as : (quants more : List ℕ) (old new : StoredPictures) → length old.pictures ≡ slots_of old + 1
     → new.format ≡ old.format → new.numbers ≡ old.numbers
     → length new.pictures ≡ length old.pictures → new.room ≡ old.room
     → ((k : ℕ) → k < slots_of old → once_drawn (quant_at more k) (picture_in new k)
@@ -64,7 +65,7 @@ kept_as quants more old new works format numbers pictures room each = record {
       ∙ sym (seen_at quants old k (omega (arith, below, works)));
 }
 
-pub kept_itself : (store : Pictures) → AreKeptAs store store
+pub kept_itself : (store : StoredPictures) → AreKeptAs store store
 kept_itself store = record { format = refl; numbers = refl; pictures = refl; room = refl; others = λ k below. refl }
 
 -- ---- a quantiser that is set
@@ -89,7 +90,7 @@ pub can_as : {q r : ℕ} {p o : Picture} → q ≡ r → p ≡ o → CanBeDrawn 
 can_as {q} {r} {p} {o} a b can = subst (λ (x : Picture). CanBeDrawn r x) b (subst (λ (n : ℕ). CanBeDrawn n p) a can)
 
 -- Where a store has another work picture, with this quantiser, and the same kept ones: the work picture is the last.
-pub late_with : (quants : List ℕ) (q : ℕ) (old new : Pictures) → AreLate quants old → new.numbers ≡ old.numbers
+pub late_with : (quants : List ℕ) (q : ℕ) (old new : StoredPictures) → AreLate quants old → new.numbers ≡ old.numbers
     → length new.pictures ≡ length old.pictures
     → ((k : ℕ) → k < slots_of old → picture_in new k ≡ picture_in old k) → (0 < q → CanBeDrawn q (work_in new 0))
     → AreLate (set quants (slots_of old) q) new
@@ -117,7 +118,7 @@ late_with quants q old new are numbers pictures others work =
 -- ---- a picture that is coded
 
 -- The kept pictures of `start` and of `old` are the same once they are drawn, and one is coded into `old`.
-pub coded_as : (start : Pictures) (quants : List ℕ) (q : ℕ) (old new : Pictures) (raw picture : Picture)
+pub coded_as : (start : StoredPictures) (quants : List ℕ) (q : ℕ) (old new : StoredPictures) (raw picture : Picture)
     → AreLate quants old
     → AreKeptAs start (store_once_drawn quants old) → IsCodedInto old new raw → once_drawn q raw ≡ picture
     → IsCodedInto start (store_once_drawn (set quants (slots_of old) q) new) picture
@@ -147,19 +148,20 @@ coded_as start quants q old new raw picture are kept coded is =
 -- ---- one that is drawn
 
 -- the work picture is given up
-pub without_work : (quants : List ℕ) (store : Pictures) → AreLate quants store
+pub without_work : (quants : List ℕ) (store : StoredPictures) → AreLate quants store
     → AreLate (set quants (slots_of store) 0) store
 without_work quants store are = late_with quants 0 store store are refl refl (λ k below. refl)
     (λ some. absurd (omega (arith, some)))
 
-pub kept_without_work : (quants : List ℕ) (store : Pictures) → AreLate quants store
+pub kept_without_work : (quants : List ℕ) (store : StoredPictures) → AreLate quants store
     → AreKeptAs (store_once_drawn quants store) (store_once_drawn (set quants (slots_of store) 0) store)
 kept_without_work quants store are =
     kept_as quants (set quants (slots_of store) 0) store store are.works refl refl refl refl
     (λ k below. same_drawn (quant_other quants (slots_of store) k 0 (λ e. omega (arith, below, e))) refl)
 
 -- the picture of one slot is drawn, where there is no work picture
-module _ (quants : List ℕ) (old new : Pictures) (slot : ℕ) (are : AreLate quants old) (below : slot < slots_of old)
+module _ (quants : List ℕ) (old new : StoredPictures) (slot : ℕ) (are : AreLate quants old)
+    (below : slot < slots_of old)
     (free : quant_at quants (slots_of old) ≡ 0)
     (format : new.format ≡ old.format) (numbers : new.numbers ≡ old.numbers) (pictures : length new.pictures
     ≡ length old.pictures) (room : new.room ≡ old.room)
@@ -206,7 +208,7 @@ module _ (quants : List ℕ) (old new : Pictures) (slot : ℕ) (are : AreLate qu
         | inr differ ↦ same_drawn (quant_other quants slot k 0 differ) (others k kept differ)
       ])
 
-pub kept_twice : {a b c : Pictures} → AreKeptAs a b → AreKeptAs b c → AreKeptAs a c
+pub kept_twice : {a b c : StoredPictures} → AreKeptAs a b → AreKeptAs b c → AreKeptAs a c
 kept_twice first second = record {
   format = second.format ∙ first.format;
   numbers = second.numbers ∙ first.numbers;
@@ -220,13 +222,13 @@ kept_twice first second = record {
 -- ---- the work picture is kept
 
 -- the quantisers then: that of the work picture goes to the slot
-abbrev moved : List ℕ → Pictures → ℕ → List ℕ
+abbrev moved : List ℕ → StoredPictures → ℕ → List ℕ
 moved quants old number = set quants (slot_of old number) (quant_at quants (slots_of old))
 
-abbrev pub after_keep : List ℕ → Pictures → ℕ → List ℕ
+abbrev pub after_keep : List ℕ → StoredPictures → ℕ → List ℕ
 after_keep quants old number = set (moved quants old number) (slots_of old) 0
 
-module _ (quants : List ℕ) (old new : Pictures) (number : ℕ) (are : AreLate quants old)
+module _ (quants : List ℕ) (old new : StoredPictures) (number : ℕ) (are : AreLate quants old)
     (keeps : Keeps old new number 0) where
   abbrev afterwards : List ℕ
   afterwards = after_keep quants old number
@@ -303,7 +305,7 @@ module _ (quants : List ℕ) (old new : Pictures) (number : ℕ) (are : AreLate 
         ∙ sym (seen_at quants old k before);
   }
 
-pub kept_drawn : (quants : List ℕ) (old : Pictures) (number : ℕ) → AreLate quants old → AreDrawn quants
+pub kept_drawn : (quants : List ℕ) (old : StoredPictures) (number : ℕ) → AreLate quants old → AreDrawn quants
     → AreDrawn (after_keep quants old number)
 kept_drawn quants old number are drawn =
     let low : slot_of old number < slots_of old = mod-lt number are.some in
@@ -323,7 +325,7 @@ kept_drawn quants old number are drawn =
 
 -- ---- an empty store
 
-pub empty_seen : (f : Format) (slots works : ℕ) (quants : List ℕ) (store : Pictures) → IsEmpty f slots works store
+pub empty_seen : (f : Format) (slots works : ℕ) (quants : List ℕ) (store : StoredPictures) → IsEmpty f slots works store
     → IsEmpty f slots works (store_once_drawn quants store)
 empty_seen f slots works quants store empty = record {
   format = empty.format;

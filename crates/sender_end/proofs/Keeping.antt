@@ -6,7 +6,7 @@ use Rattle.std.proofs.lemmas.Bool.{cases_eq, eq-eqb, ne_eqb}
 use Rattle.std.proofs.lemmas.List.{get_or-set_same, get_or-set_other, length-set}
 use Rattle.std.proofs.Math.Nat.{mod-lt}
 use Rattle.h263_planes.specs.Picture.{Picture}
-use Rattle.picture_store.specs.Pictures.{Pictures, IsKept, picture_in, slot_of, slots_of}
+use Rattle.picture_store.specs.Pictures.{StoredPictures, IsKept, picture_in, slot_of, slots_of}
 use Rattle.reference_selector.specs.declared.Selector.{Selector}
 use Rattle.reference_selector.specs.Stands.{SelectorStands}
 use Rattle.call_model.specs.Numbers.{OneRestIsFar}
@@ -130,7 +130,7 @@ number_kept far numbers slots n long some kept m below last =
     apart differ same = let distance : m + slots ≤ n = far slots m n some same (omega (arith, below, differ)) in
         omega (arith, distance, last)
 
-pub still_kept : OneRestIsFar → (old new : Pictures) (slots n : ℕ) → slots_of old ≡ slots → 0 < slots
+pub still_kept : OneRestIsFar → (old new : StoredPictures) (slots n : ℕ) → slots_of old ≡ slots → 0 < slots
     → ((m : ℕ) → m < n → n ≤ m + slots → IsKept old m) → new.numbers ≡ set old.numbers (slot_of old n) (Some n)
     → (m : ℕ) → m < n + 1 → n + 1 ≤ m + slots → IsKept new m
 still_kept far old new slots n long some kept numbers m below last =
@@ -146,12 +146,12 @@ still_kept far old new slots n long some kept numbers m below last =
 
 -- ---- the reference
 
-pub has_kept : (store : Pictures) (reference : Option ℕ) → IfSome reference (λ m. IsKept store m)
+pub has_kept : (store : StoredPictures) (reference : Option ℕ) → IfSome reference (λ m. IsKept store m)
     → HasKept (kind_of (is_some reference)) store reference
 has_kept store None kept = tt
 has_kept store (Some m) kept = kept
 
-pub same_picture : (store : Pictures) (slots : ℕ) (picture : ℕ → Picture) (reference : Option ℕ) → 0 < slots
+pub same_picture : (store : StoredPictures) (slots : ℕ) (picture : ℕ → Picture) (reference : Option ℕ) → 0 < slots
     → slots_of store ≡ slots
     → ((rest : ℕ) → rest < slots → picture rest ≡ picture_in store rest) → kept_picture store reference
     ≡ option_map (λ m. picture (m % slots)) reference

@@ -16,11 +16,11 @@ use Rattle.call_decoding.specs.Styles.{Style}
 use Rattle.call_encoding.specs.Encoding.{encoding}
 use Rattle.call_encoding.specs.Frames.{Frame}
 use Rattle.sender_end.specs.Selecting.{within_chain}
-use Rattle.sender_end.specs.Stands.{Holds, IsSeen, Run, Stands}
+use Rattle.sender_end.specs.Stands.{Holds, IsSeen, SentRun, PacedStands}
 use Rattle.sender_end.specs.State.{SenderState}
 use Rattle.sender_end.proofs.Captured.{made, with_kept}
 
-pub holds_as : {P : Type 0} (p : Params) (state : SenderState P) (run : Run) (t : Sender Picture) → state.params ≡ p
+pub holds_as : {P : Type 0} (p : Params) (state : SenderState P) (run : SentRun) (t : Sender Picture) → state.params ≡ p
     → IsSeen state t → state.since ≡ run.since
     → SenderHolds (pictures p.format) (encoding p) (rules_of p) t run.run → Holds state run
 holds_as p state run t same seen since holds = record {
@@ -34,7 +34,7 @@ pub stands_as : {P : Type 0} (p : Params) (pace : List ℕ
     → ℕ) (state : SenderState P) (entries : List (SenderEntry Frame)) (t : Sender Picture) → state.params ≡ p
     → IsSeen state t
     → state.since ≡ 0 → SenderStands (pictures p.format) (encoding p) (rules_of p) pace t entries
-    → Stands pace state entries
+    → PacedStands pace state entries
 stands_as p pace state entries t same seen since stands = record {
   s = t;
   seen = seen;

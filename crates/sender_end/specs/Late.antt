@@ -6,7 +6,7 @@ use Rattle.h263_types.specs.Sizes.{mbs_of}
 use Rattle.h263_planes.specs.Picture.{Picture}
 use Rattle.picture_recon.specs.Samples.{reconstruction}
 use Rattle.picture_recon.specs.Undrawn.{undrawn_mb, undrawn_mbs}
-use Rattle.picture_store.specs.Pictures.{Pictures, picture_in, slots_of}
+use Rattle.picture_store.specs.Pictures.{StoredPictures, picture_in, slots_of}
 
 -- the quantiser of a picture that isn't drawn, by its place in the store; 0 where it is drawn
 abbrev pub quant_at : List ℕ → ℕ → ℕ
@@ -23,16 +23,16 @@ pub record CanBeDrawn (quant : ℕ) (p : Picture) : Type 0 where
   pub in_range : (at : ℕ) → at < mbs_of p.format → IsMb (undrawn_mb quant p at)
 
 -- the pictures of a store once all are drawn
-unfoldable pub pictures_once_drawn : List ℕ → Pictures → List Picture
+unfoldable pub pictures_once_drawn : List ℕ → StoredPictures → List Picture
 pictures_once_drawn quants store =
     map (λ k. once_drawn (quant_at quants k) (picture_in store k)) (range_with_len 0 (length store.pictures))
 
 -- the store once all its pictures are drawn
-abbrev pub store_once_drawn : List ℕ → Pictures → Pictures
+abbrev pub store_once_drawn : List ℕ → StoredPictures → StoredPictures
 store_once_drawn quants store = record store { pictures = pictures_once_drawn quants store }
 
 -- each picture has its quantiser, the only work picture the last one, and can be drawn if it isn't
-pub record AreLate (quants : List ℕ) (store : Pictures) : Type 0 where
+pub record AreLate (quants : List ℕ) (store : StoredPictures) : Type 0 where
   pub count : length quants ≡ length store.pictures
   pub works : length store.pictures ≡ slots_of store + 1
   pub some : 0 < slots_of store
@@ -48,15 +48,15 @@ AreDrawn quants = (k : ℕ) → quant_at quants k ≡ 0
 pub record LatePictures : Type 0 where
   pub draws_all : Bool
   pub quants : List ℕ
-  pub store : Pictures
+  pub store : StoredPictures
 
 -- what a store keeps of its parts
-pub record IsLateStore (draws_all : Bool) (quants : List ℕ) (store : Pictures) : Type 0 where
+pub record IsLateStore (draws_all : Bool) (quants : List ℕ) (store : StoredPictures) : Type 0 where
   pub late : AreLate quants store
   pub drawn : draws_all ≡ true → AreDrawn quants
 
 -- the kept pictures are the same, once they are drawn
-pub record AreKeptAs (old new : Pictures) : Type 0 where
+pub record AreKeptAs (old new : StoredPictures) : Type 0 where
   pub format : new.format ≡ old.format
   pub numbers : new.numbers ≡ old.numbers
   pub pictures : length new.pictures ≡ length old.pictures

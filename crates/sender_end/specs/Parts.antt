@@ -1,7 +1,7 @@
 -- The parts of a sender.
 use Rattle.std.specs.Prelude.{◌≡◌, All, ℕ, ◌+◌, ◌%◌, ◌<◌, ◌≤◌, false, length, slice_index, slice_index_or}
 use Rattle.h263_types.specs.Params.{IsParams}
-use Rattle.packet_cutter.specs.Cutting.{format_of, limit_of, packets_of, sequence_of}
+use Rattle.packet_cutter.specs.Cutting.{cut_format, limit_of, cutter_packets, sequence_of}
 use Rattle.picture_store.specs.Pictures.{IsKept, slots_of}
 use Rattle.reference_selector.specs.Stands.{SelectorStands}
 use Rattle.call_decoding.specs.Rules.{rules_of}
@@ -9,14 +9,14 @@ use Rattle.sender_end.specs.declared.sender.Sender.TheInside.{Inside}
 use Rattle.sender_end.specs.State.{SenderState}
 
 -- what contracts see of them
-abbrev pub state_of : {P : Type 0} → Inside P → SenderState P
-state_of s =
+abbrev pub sender_state : {P : Type 0} → Inside P → SenderState P
+sender_state s =
     record {
       pace = s.pace;
       params = s.params;
       sent = s.sent;
       sequence = sequence_of s.cutter;
-      packets = packets_of s.cutter;
+      packets = cutter_packets s.cutter;
       sizes = s.sizes.items;
       since = s.since;
       selector = s.selector;
@@ -27,7 +27,7 @@ state_of s =
 -- they fit each other
 pub record IsReady {P : Type 0} (s : Inside P) : Type 0 where
   pub params : IsParams s.params
-  pub cutter_format : format_of s.cutter ≡ s.params.format
+  pub cutter_format : cut_format s.cutter ≡ s.params.format
   pub cutter_limit : limit_of s.cutter ≡ s.params.limit
   pub store_format : s.store.store.format ≡ s.params.format
   pub slots : slots_of s.store.store ≡ s.params.slots
@@ -38,4 +38,4 @@ pub record IsReady {P : Type 0} (s : Inside P) : Type 0 where
       (λ m. slice_index s.selector.depths (m % s.params.slots))
       (λ m. slice_index_or s.selector.known (m % s.params.slots) false)
   pub few : s.sent ≤ 1048576
-  pub small : All (λ packet. length packet ≤ s.params.limit) (packets_of s.cutter)
+  pub small : All (λ packet. length packet ≤ s.params.limit) (cutter_packets s.cutter)

@@ -11,7 +11,7 @@ use Rattle.call_model.specs.Sending.{SenderEntry, SenderRun, Reply, RefusedMessa
 use Rattle.call_model.specs.Sending as call
 use Rattle.call_model.specs.SenderStanding.{IsAfterCapture}
 use Rattle.call_model.specs.Stands.{Sender, SenderStands}
-use Rattle.call_model.specs.Steering.{SteeredRun, SenderHolds, made_by_kept, next_steered, steered_capture, steered_feedback, with_picture}
+use Rattle.call_model.specs.Steering.{SteeredRun, SenderHolds, made_by_kept, next_steered, steered_capture, steered_feedback, run_with_picture}
 use Rattle.call_decoding.specs.Rules.{rules_of}
 use Rattle.call_decoding.specs.Samples.{pictures}
 use Rattle.call_decoding.specs.Styles.{Style}
@@ -35,7 +35,7 @@ pub record IsSeen {P : Type 0} (state : SenderState P) (s : Sender Picture) : Ty
       (λ m. s.depth (m % state.params.slots)) (λ m. s.known (m % state.params.slots))
 
 -- The state stands for these entries, the newest first, with this pace.
-pub record Stands {P : Type 0} (pace : List ℕ → ℕ) (state : SenderState P)
+pub record PacedStands {P : Type 0} (pace : List ℕ → ℕ) (state : SenderState P)
     (entries : List (SenderEntry Frame)) : Type 0 where
   pub s : Sender Picture
   pub seen : IsSeen state s
@@ -45,30 +45,30 @@ pub record Stands {P : Type 0} (pace : List ℕ → ℕ) (state : SenderState P)
       (rules_of state.params) pace s entries
 
 -- what was done by these entries
-abbrev pub run_of : Params → (List ℕ → ℕ) → List (SenderEntry Frame) → SenderRun Style Mb Picture
-run_of p pace entries = sender_run (pictures p.format) (encoding p) (rules_of p) pace entries
+abbrev pub entries_run : Params → (List ℕ → ℕ) → List (SenderEntry Frame) → SenderRun Style Mb Picture
+entries_run p pace entries = sender_run (pictures p.format) (encoding p) (rules_of p) pace entries
 
 -- the next picture after these entries
 abbrev pub next_after : Params → (List ℕ → ℕ) → Frame → List (SenderEntry Frame)
     → CodedPicture Style Mb Picture
 next_after p pace frame entries =
-    let run = run_of p pace entries in
+    let run = entries_run p pace entries in
     next_coded (pictures p.format) (encoding p) (rules_of p) pace frame run.coded run.known
 
 -- the packets of the last picture
 abbrev pub last_packets : Params → (List ℕ → ℕ) → List (SenderEntry Frame) → List (List ℕ)
 last_packets p pace entries =
-    let coded = (run_of p pace entries).coded in
-    call.packets_of (encoding p) (rules_of p) coded (length coded - 1)
+    let coded = (entries_run p pace entries).coded in
+    call.packets_at (encoding p) (rules_of p) coded (length coded - 1)
 
 -- ---- a sender that may be steered
 
 -- what it has done
-abbrev pub Run : Type 0
-Run = SteeredRun Style Mb Picture
+abbrev pub SentRun : Type 0
+SentRun = SteeredRun Style Mb Picture
 
 -- The state holds this run, whatever its pace was at each picture.
-pub record Holds {P : Type 0} (state : SenderState P) (run : Run) : Type 0 where
+pub record Holds {P : Type 0} (state : SenderState P) (run : SentRun) : Type 0 where
   pub s : Sender Picture
   pub seen : IsSeen state s
   pub since : state.since ≡ run.since
@@ -76,36 +76,36 @@ pub record Holds {P : Type 0} (state : SenderState P) (run : Run) : Type 0 where
       (rules_of state.params) s run.run
 
 -- the next picture of a run, of this frame and with this pace
-abbrev pub next_in : Params → (List ℕ → ℕ) → Frame → Run → CodedPicture Style Mb Picture
+abbrev pub next_in : Params → (List ℕ → ℕ) → Frame → SentRun → CodedPicture Style Mb Picture
 next_in p pace frame run =
     next_steered (pictures p.format) (encoding p) (rules_of p) pace frame run
 
 -- the run with that picture
-abbrev pub after_code : Params → (List ℕ → ℕ) → Frame → Run → Run
+abbrev pub after_code : Params → (List ℕ → ℕ) → Frame → SentRun → SentRun
 after_code p pace frame run =
     steered_capture (pictures p.format) (encoding p) (rules_of p) pace frame run
 
 -- the next picture of a run, with a reference that was given
-abbrev pub next_with : Params → (List ℕ → ℕ) → Option ℕ → Frame → Run → CodedPicture Style Mb Picture
+abbrev pub next_with : Params → (List ℕ → ℕ) → Option ℕ → Frame → SentRun → CodedPicture Style Mb Picture
 next_with p pace reference frame run =
     let coded = run.run.coded in
     capture (pictures p.format) (encoding p) (pace (last_sizes (encoding p) (rules_of p) coded)) frame coded
     (within_chain (rules_of p) (depth_at coded) reference)
 
 -- the run with that picture
-abbrev pub after_code_from : Params → (List ℕ → ℕ) → Option ℕ → Frame → Run → Run
+abbrev pub after_code_from : Params → (List ℕ → ℕ) → Option ℕ → Frame → SentRun → SentRun
 after_code_from p pace reference frame run =
-    record run { run = with_picture (next_with p pace reference frame run) run.run }
+    record run { run = run_with_picture (next_with p pace reference frame run) run.run }
 
 -- the run with what a message makes known
-abbrev pub after_message : Params → List ℕ → Run → Run
+abbrev pub after_message : Params → List ℕ → SentRun → SentRun
 after_message p bytes run =
     steered_feedback (pictures p.format) (encoding p) (rules_of p) bytes run
 
 -- the packets of its last picture
-abbrev pub packets_after : Params → Run → List (List ℕ)
+abbrev pub packets_after : Params → SentRun → List (List ℕ)
 packets_after p run =
-    call.packets_of (encoding p) (rules_of p) run.run.coded (length run.run.coded - 1)
+    call.packets_at (encoding p) (rules_of p) run.run.coded (length run.run.coded - 1)
 
 -- ---- answers
 

@@ -1,7 +1,7 @@
 -- A sender as its contracts see it.
 use Rattle.std.specs.Prelude.{ℕ, Bool, List}
 use Rattle.h263_types.specs.declared.params.Params.{Params}
-use Rattle.picture_store.specs.Pictures.{Pictures}
+use Rattle.picture_store.specs.Pictures.{StoredPictures}
 use Rattle.reference_selector.specs.declared.Selector.{Selector}
 
 pub record SenderState (P : Type 0) : Type 0 where
@@ -21,6 +21,6 @@ pub record SenderState (P : Type 0) : Type 0 where
   -- what is known of the last pictures, and the pictures themselves, as they are once
   -- all are drawn
   pub selector : Selector
-  pub store : Pictures
+  pub store : StoredPictures
   -- each picture is drawn as it is coded, so there is one to be shown
   pub draws_all : Bool

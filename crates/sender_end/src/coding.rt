@@ -1,16 +1,16 @@
 //! The sizes of the pictures that were coded.
 ghost use Rattle.std.specs.Prelude.{◌≡◌, ◌≤◌, All, length};
-ghost use Rattle.packet_cutter.specs.Cutting.{packets_of};
+ghost use Rattle.packet_cutter.specs.Cutting.{cutter_packets};
 ghost use Rattle.call_model.specs.SenderStanding.{with_size};
-ghost use Rattle.call_model.specs.Sending.{bytes_in};
+ghost use Rattle.call_model.specs.Sending.{bytes_together};
 
 use arrayvec::ArrayVec;
 use packet_cutter::Cutter;
 
 /// How many bytes the packets have together.
 pub fn size_of(cutter: &Cutter) -> u32
-    requires { All (λ p. length p ≤ 9000) (packets_of cutter.now) }
-    ensures { result ≡ bytes_in (packets_of cutter.now) }
+    requires { All (λ p. length p ≤ 9000) (cutter_packets cutter.now) }
+    ensures { result ≡ bytes_together (cutter_packets cutter.now) }
 {
     let mut size = 0;
     for i in 0..cutter.count() {

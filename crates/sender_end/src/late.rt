@@ -14,7 +14,7 @@ ghost use Rattle.picture_header.specs.Ranges.{IsHeader};
 ghost use Rattle.mode_choice.specs.Choice.{choices_of};
 ghost use Rattle.picture_recon.specs.Samples.{reconstruction};
 ghost use Rattle.picture_recon.specs.Undrawn.{undrawn_mb, undrawn_mbs};
-ghost use Rattle.packet_cutter.specs.Cutting.{format_of, limit_of, packets_of, sequence_of};
+ghost use Rattle.packet_cutter.specs.Cutting.{cut_format, limit_of, cutter_packets, sequence_of};
 ghost use Rattle.packet_cutter.specs.Packets.{ArePacketsOf};
 ghost use Rattle.picture_store.specs.Pictures.{IsEmpty, IsKept, Keeps, picture_in, slot_of, slots_of, works_of};
 ghost use Rattle.sender_end.specs.Coding.{HasKept, IsCodedInto, kept_picture};
@@ -77,15 +77,15 @@ fn code_into(
     requires frame_format { (picture frame).format ≡ params.now.format }
     requires reference { HasReferenceOnlyInP heading.now.header.kind params.now.format
         (option_map picture reference) }
-    requires cutter_format { format_of cutter.old ≡ params.now.format }
+    requires cutter_format { cut_format cutter.old ≡ params.now.format }
     requires cutter_limit { limit_of cutter.old ≡ params.now.limit }
     requires size { length bytes.old ≡ size_of_picture params.now.format }
     ensures packets { ArePacketsOf heading.now.number (sequence_of cutter.old) heading.now.header params.now.limit
         (choices_of (picture frame.entry) (option_map picture reference.entry) heading.now.header
-        params.now) (packets_of cutter.new) }
+        params.now) (cutter_packets cutter.new) }
     ensures sequence { sequence_of cutter.new
-        ≡ (sequence_of cutter.old + length (packets_of cutter.new)) % 65536 }
-    ensures cutter_format { format_of cutter.new ≡ params.now.format }
+        ≡ (sequence_of cutter.old + length (cutter_packets cutter.new)) % 65536 }
+    ensures cutter_format { cut_format cutter.new ≡ params.now.format }
     ensures cutter_limit { limit_of cutter.new ≡ params.now.limit }
     ensures reconstruction { picture_of params.now.format bytes.new
         ≡ reconstruction params.now.format heading.now.header.rounding
@@ -118,14 +118,14 @@ fn code_levels_into(
     requires params { IsParams params.now }
     requires header_format { heading.now.header.format ≡ params.now.format }
     requires frame_format { (picture frame).format ≡ params.now.format }
-    requires cutter_format { format_of cutter.old ≡ params.now.format }
+    requires cutter_format { cut_format cutter.old ≡ params.now.format }
     requires cutter_limit { limit_of cutter.old ≡ params.now.limit }
     requires size { length bytes.old ≡ size_of_picture params.now.format }
     ensures packets { ArePacketsOf heading.now.number (sequence_of cutter.old) heading.now.header params.now.limit
-        (choices_of (picture frame.entry) None heading.now.header params.now) (packets_of cutter.new) }
+        (choices_of (picture frame.entry) None heading.now.header params.now) (cutter_packets cutter.new) }
     ensures sequence { sequence_of cutter.new
-        ≡ (sequence_of cutter.old + length (packets_of cutter.new)) % 65536 }
-    ensures cutter_format { format_of cutter.new ≡ params.now.format }
+        ≡ (sequence_of cutter.old + length (cutter_packets cutter.new)) % 65536 }
+    ensures cutter_format { cut_format cutter.new ≡ params.now.format }
     ensures cutter_limit { limit_of cutter.new ≡ params.now.limit }
     ensures undrawn { undrawn_mbs heading.now.header.quant (picture_of params.now.format bytes.new)
         ≡ choices_of (picture frame.entry) None heading.now.header params.now }
@@ -244,14 +244,14 @@ impl LateStore {
         requires params { IsParams params.now }
         requires header_format { heading.now.header.format ≡ params.now.format }
         requires frame_format { (picture frame).format ≡ params.now.format }
-        requires cutter_format { format_of cutter.old ≡ params.now.format }
+        requires cutter_format { cut_format cutter.old ≡ params.now.format }
         requires cutter_limit { limit_of cutter.old ≡ params.now.limit }
         requires store_format { self.old.store.format ≡ params.now.format }
         ensures packets { ArePacketsOf heading.now.number (sequence_of cutter.old) heading.now.header params.now.limit
-            (choices_of (picture frame.entry) None heading.now.header params.now) (packets_of cutter.new) }
+            (choices_of (picture frame.entry) None heading.now.header params.now) (cutter_packets cutter.new) }
         ensures sequence { sequence_of cutter.new
-            ≡ (sequence_of cutter.old + length (packets_of cutter.new)) % 65536 }
-        ensures cutter_format { format_of cutter.new ≡ params.now.format }
+            ≡ (sequence_of cutter.old + length (cutter_packets cutter.new)) % 65536 }
+        ensures cutter_format { cut_format cutter.new ≡ params.now.format }
         ensures cutter_limit { limit_of cutter.new ≡ params.now.limit }
         ensures store { IsCodedInto self.old.store self.new.store
             (reconstruction params.now.format heading.now.header.rounding None
@@ -281,15 +281,15 @@ impl LateStore {
         requires header_format { heading.now.header.format ≡ params.now.format }
         requires kept { HasKept heading.now.header.kind self.old.store (Some reference) }
         requires frame_format { (picture frame).format ≡ params.now.format }
-        requires cutter_format { format_of cutter.old ≡ params.now.format }
+        requires cutter_format { cut_format cutter.old ≡ params.now.format }
         requires cutter_limit { limit_of cutter.old ≡ params.now.limit }
         requires store_format { self.old.store.format ≡ params.now.format }
         ensures packets { ArePacketsOf heading.now.number (sequence_of cutter.old) heading.now.header params.now.limit
             (choices_of (picture frame.entry) (kept_picture self.old.store (Some reference))
-            heading.now.header params.now) (packets_of cutter.new) }
+            heading.now.header params.now) (cutter_packets cutter.new) }
         ensures sequence { sequence_of cutter.new
-            ≡ (sequence_of cutter.old + length (packets_of cutter.new)) % 65536 }
-        ensures cutter_format { format_of cutter.new ≡ params.now.format }
+            ≡ (sequence_of cutter.old + length (cutter_packets cutter.new)) % 65536 }
+        ensures cutter_format { cut_format cutter.new ≡ params.now.format }
         ensures cutter_limit { limit_of cutter.new ≡ params.now.limit }
         ensures store { IsCodedInto self.old.store self.new.store
             (reconstruction params.now.format heading.now.header.rounding
@@ -318,15 +318,15 @@ impl LateStore {
         requires header_format { heading.now.header.format ≡ params.now.format }
         requires kept { HasKept heading.now.header.kind self.old.store reference }
         requires frame_format { (picture frame).format ≡ params.now.format }
-        requires cutter_format { format_of cutter.old ≡ params.now.format }
+        requires cutter_format { cut_format cutter.old ≡ params.now.format }
         requires cutter_limit { limit_of cutter.old ≡ params.now.limit }
         requires store_format { self.old.store.format ≡ params.now.format }
         ensures packets { ArePacketsOf heading.now.number (sequence_of cutter.old) heading.now.header params.now.limit
             (choices_of (picture frame.entry) (kept_picture self.old.store reference) heading.now.header
-            params.now) (packets_of cutter.new) }
+            params.now) (cutter_packets cutter.new) }
         ensures sequence { sequence_of cutter.new
-            ≡ (sequence_of cutter.old + length (packets_of cutter.new)) % 65536 }
-        ensures cutter_format { format_of cutter.new ≡ params.now.format }
+            ≡ (sequence_of cutter.old + length (cutter_packets cutter.new)) % 65536 }
+        ensures cutter_format { cut_format cutter.new ≡ params.now.format }
         ensures cutter_limit { limit_of cutter.new ≡ params.now.limit }
         ensures store { IsCodedInto self.old.store self.new.store
             (reconstruction params.now.format heading.now.header.rounding

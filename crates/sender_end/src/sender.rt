@@ -57,17 +57,17 @@ impl<P: Pace> Model for Sender<P> {
 
     ghost Value = { SenderState P };
 
-    ghost use Rattle.sender_end.specs.Parts.{IsReady, state_of};
+    ghost use Rattle.sender_end.specs.Parts.{IsReady, sender_state};
 
-    ghost view = { λ s. state_of s };
+    ghost view = { λ s. sender_state s };
 
     ghost invariant = { λ s. IsReady s };
 }
 
 impl<P: Pace> Sender<P> {
-    ghost use Rattle.sender_end.specs.Stands.{Describes, Stands, last_packets, next_after};
-    ghost use Rattle.sender_end.specs.Stands.{reply_of, run_of};
-    ghost use Rattle.sender_end.specs.Stands.{Holds, Run, after_code, after_message, next_in};
+    ghost use Rattle.sender_end.specs.Stands.{Describes, PacedStands, last_packets, next_after};
+    ghost use Rattle.sender_end.specs.Stands.{reply_of, entries_run};
+    ghost use Rattle.sender_end.specs.Stands.{Holds, SentRun, after_code, after_message, next_in};
     ghost use Rattle.sender_end.specs.Stands.{packets_after};
     ghost use Rattle.sender_end.specs.Stands.{IsCodedWith, IsSeen, after_code_from, next_with};
     ghost use Rattle.sender_end.specs.Known.{known_in};
@@ -80,7 +80,7 @@ impl<P: Pace> Sender<P> {
         ensures pace { IfOk result (λ sender. sender.pace ≡ pace) }
         ensures room { IfOk result (λ sender. sender.store.room
             ≡ room_for params.now.format (params.now.slots + 1)) }
-        ensures stands { IfOk result (λ sender. Stands (P.quant_of sender.pace) sender []) }
+        ensures stands { IfOk result (λ sender. PacedStands (P.quant_of sender.pace) sender []) }
         ensures holds { IfOk result (λ sender. Holds sender nothing_done) }
         ensures draws_all { IfOk result (λ sender. sender.draws_all ≡ true) }
     {
@@ -100,7 +100,7 @@ impl<P: Pace> Sender<P> {
         ensures pace { IfOk result (λ sender. sender.pace ≡ pace) }
         ensures room { IfOk result (λ sender. sender.store.room
             ≡ room_for params.now.format (params.now.slots + 1)) }
-        ensures stands { IfOk result (λ sender. Stands (P.quant_of sender.pace) sender []) }
+        ensures stands { IfOk result (λ sender. PacedStands (P.quant_of sender.pace) sender []) }
         ensures holds { IfOk result (λ sender. Holds sender nothing_done) }
         ensures draws_all { IfOk result (λ sender. sender.draws_all ≡ false) }
     {
@@ -120,7 +120,7 @@ impl<P: Pace> Sender<P> {
         ensures pace { IfOk result (λ sender. sender.pace ≡ pace) }
         ensures room { IfOk result (λ sender. sender.store.room
             ≡ room_for params.now.format (params.now.slots + 1)) }
-        ensures stands { IfOk result (λ sender. Stands (P.quant_of sender.pace) sender []) }
+        ensures stands { IfOk result (λ sender. PacedStands (P.quant_of sender.pace) sender []) }
         ensures holds { IfOk result (λ sender. Holds sender nothing_done) }
         ensures draws_all { IfOk result (λ sender. sender.draws_all ≡ draws_all) }
     {
@@ -149,7 +149,7 @@ impl<P: Pace> Sender<P> {
         ensures pace { self.new.pace ≡ first_pace }
         ensures room { self.new.store.room ≡ self.old.store.room }
         ensures draws_all { self.new.draws_all ≡ self.old.draws_all }
-        ensures stands { Stands (P.quant_of self.new.pace) self.new [] }
+        ensures stands { PacedStands (P.quant_of self.new.pace) self.new [] }
         ensures holds { Holds self.new nothing_done }
     {
         call_model_laws::sender_stands::<Framed, Styled, Mb, Pictured, MessageFault>();
@@ -179,18 +179,18 @@ impl<P: Pace> Sender<P> {
         ensures count { result.packets ≡ length self.new.packets }
         ensures limit { All (λ packet. length packet ≤ self.new.params.limit) self.new.packets }
         ensures stands { (entries : List (SenderEntry Frame))
-            → Stands (P.quant_of self.old.pace) self.old entries
-            → Stands (P.quant_of self.old.pace) self.new
+            → PacedStands (P.quant_of self.old.pace) self.old entries
+            → PacedStands (P.quant_of self.old.pace) self.new
             (Capture (record { picture = picture frame.entry; messages = back.now }) ∷ entries) }
         ensures tells { (entries : List (SenderEntry Frame))
-            → Stands (P.quant_of self.old.pace) self.old entries
-            → Describes (length (run_of self.old.params (P.quant_of self.old.pace) entries).coded)
+            → PacedStands (P.quant_of self.old.pace) self.old entries
+            → Describes (length (entries_run self.old.params (P.quant_of self.old.pace) entries).coded)
             (next_after self.old.params (P.quant_of self.old.pace)
             (record { picture = picture frame.entry; messages = back.now }) entries) result }
-        ensures holds { (run : Run) → Holds self.old run → Holds self.new
+        ensures holds { (run : SentRun) → Holds self.old run → Holds self.new
             (after_code self.old.params (P.quant_of self.old.pace)
             (record { picture = picture frame.entry; messages = back.now }) run) }
-        ensures makes { (run : Run) → Holds self.old run → Describes (length run.run.coded)
+        ensures makes { (run : SentRun) → Holds self.old run → Describes (length run.run.coded)
             (next_in self.old.params (P.quant_of self.old.pace)
             (record { picture = picture frame.entry; messages = back.now }) run) result }
     {
@@ -222,10 +222,10 @@ impl<P: Pace> Sender<P> {
         ensures draws_all { self.new.draws_all ≡ self.old.draws_all }
         ensures count { result.packets ≡ length self.new.packets }
         ensures limit { All (λ packet. length packet ≤ self.new.params.limit) self.new.packets }
-        ensures holds { (run : Run) → Holds self.old run → Holds self.new
+        ensures holds { (run : SentRun) → Holds self.old run → Holds self.new
             (after_code_from self.old.params (P.quant_of self.old.pace) reference
             (record { picture = picture frame.entry; messages = back.now }) run) }
-        ensures makes { (run : Run) → Holds self.old run → Describes (length run.run.coded)
+        ensures makes { (run : SentRun) → Holds self.old run → Describes (length run.run.coded)
             (next_with self.old.params (P.quant_of self.old.pace) reference
             (record { picture = picture frame.entry; messages = back.now }) run) result }
     {
@@ -298,10 +298,10 @@ impl<P: Pace> Sender<P> {
         ensures limit { length result.now ≤ self.now.params.limit }
         ensures small { length result.now ≤ 9000 }
         ensures stands { (entries : List (SenderEntry Frame))
-            → Stands (P.quant_of self.now.pace) self.now entries
+            → PacedStands (P.quant_of self.now.pace) self.now entries
             → result.now
             ≡ slice_index_or (last_packets self.now.params (P.quant_of self.now.pace) entries) i [] }
-        ensures holds { (run : Run) → Holds self.now run
+        ensures holds { (run : SentRun) → Holds self.now run
             → result.now ≡ slice_index_or (packets_after self.now.params run) i [] }
     {
         self.cutter.packet(i)
@@ -313,11 +313,11 @@ impl<P: Pace> Sender<P> {
         requires coded { 0 < self.now.sent }
         requires drawn { self.now.draws_all ≡ true }
         ensures stands { (entries : List (SenderEntry Frame))
-            → Stands (P.quant_of self.now.pace) self.now entries
+            → PacedStands (P.quant_of self.now.pace) self.now entries
             → Some (picture result)
-            ≡ picture_at (run_of self.now.params (P.quant_of self.now.pace) entries).coded
+            ≡ picture_at (entries_run self.now.params (P.quant_of self.now.pace) entries).coded
             (self.now.sent - 1) }
-        ensures holds { (run : Run) → Holds self.now run
+        ensures holds { (run : SentRun) → Holds self.now run
             → Some (picture result) ≡ picture_at run.run.coded (self.now.sent - 1) }
         ensures format { (picture result).format ≡ self.now.params.format }
         ensures whole { IsPicture (picture result) }
@@ -329,10 +329,10 @@ impl<P: Pace> Sender<P> {
     pub fn sent(&self) -> u32
         ensures value { result ≡ self.now.sent }
         ensures stands { (entries : List (SenderEntry Frame))
-            → Stands (P.quant_of self.now.pace) self.now entries
+            → PacedStands (P.quant_of self.now.pace) self.now entries
             → result
-            ≡ length (run_of self.now.params (P.quant_of self.now.pace) entries).coded }
-        ensures holds { (run : Run) → Holds self.now run → result ≡ length run.run.coded }
+            ≡ length (entries_run self.now.params (P.quant_of self.now.pace) entries).coded }
+        ensures holds { (run : SentRun) → Holds self.now run → result ≡ length run.run.coded }
     {
         self.sent
     }
@@ -340,7 +340,7 @@ impl<P: Pace> Sender<P> {
     /// How many pictures it knows to be complete at the other end, of those to which its next
     /// picture may refer: those in the window of `slots - lead - 1` numbers, but for what it forgot.
     pub fn known(&self) -> u32
-        ensures { (run : Run) → Holds self.now run → result ≡ known_in self.now.params run }
+        ensures { (run : SentRun) → Holds self.now run → result ≡ known_in self.now.params run }
     {
         let window = self.params.slots - self.params.lead - 1;
         let first = self.sent.saturating_sub(window);
@@ -353,16 +353,16 @@ impl<P: Pace> Sender<P> {
         ensures others { self.new ≡ record self.old { selector = self.new.selector } }
         ensures same { is_noted (reply_of result) ≡ false → self.new ≡ self.old }
         ensures stands { (entries : List (SenderEntry Frame))
-            → Stands (P.quant_of self.old.pace) self.old entries
-            → Stands (P.quant_of self.old.pace) self.new (call.Feedback bytes.now ∷ entries) }
+            → PacedStands (P.quant_of self.old.pace) self.old entries
+            → PacedStands (P.quant_of self.old.pace) self.new (call.Feedback bytes.now ∷ entries) }
         ensures answer { (entries : List (SenderEntry Frame))
-            → Stands (P.quant_of self.old.pace) self.old entries
+            → PacedStands (P.quant_of self.old.pace) self.old entries
             → reply_of result ≡ feedback_answer (rules_of self.old.params)
-            (length (run_of self.old.params (P.quant_of self.old.pace) entries).coded)
+            (length (entries_run self.old.params (P.quant_of self.old.pace) entries).coded)
             (read_message self.old.params.clock bytes.now) }
-        ensures holds { (run : Run) → Holds self.old run
+        ensures holds { (run : SentRun) → Holds self.old run
             → Holds self.new (after_message self.old.params bytes.now run) }
-        ensures replies { (run : Run) → Holds self.old run
+        ensures replies { (run : SentRun) → Holds self.old run
             → reply_of result ≡ feedback_answer (rules_of self.old.params)
             (length run.run.coded) (read_message self.old.params.clock bytes.now) }
     {
@@ -385,7 +385,7 @@ impl<P: Pace> Sender<P> {
     /// bytes of the last pictures, as the one before it was.
     pub fn set_pace(&mut self, pace: P)
         ensures others { self.new ≡ record self.old { pace = pace } }
-        ensures holds { (run : Run) → Holds self.old run → Holds self.new run }
+        ensures holds { (run : SentRun) → Holds self.old run → Holds self.new run }
     {
         self.pace = pace;
     }
@@ -394,7 +394,7 @@ impl<P: Pace> Sender<P> {
     /// is acknowledged. So the next picture is coded by itself.
     pub fn forget(&mut self)
         ensures others { self.new ≡ record self.old { since = self.old.sent } }
-        ensures holds { (run : Run) → Holds self.old run → Holds self.new (after_forget run) }
+        ensures holds { (run : SentRun) → Holds self.old run → Holds self.new (after_forget run) }
     {
         self.since = self.sent;
     }

@@ -6,27 +6,27 @@ use Rattle.stream_choice.specs.declared.budget.Budget.{Budget}
 use Rattle.stream_choice.specs.Granting.{BudgetStands}
 use Rattle.session_intake.specs.declared.budgets.Budgets.{Budgets}
 
-pub record Asked : Type 0 where
+pub record LookTimes : Type 0 where
   pub followed : List ℕ
   pub former : List ℕ
   pub others : List ℕ
 
-abbrev pub no_asked : Asked
+abbrev pub no_asked : LookTimes
 no_asked = record { followed = []; former = []; others = [] }
 
 -- the times of those with this taker's budget
-abbrev pub asked_of : Taker → Asked → List ℕ
-asked_of takers.Followed a = a.followed
-asked_of takers.Former a = a.former
-asked_of takers.Tried a = a.others
-asked_of takers.Begins a = a.others
-asked_of takers.NoRun a = a.others
+abbrev pub look_times_of : Taker → LookTimes → List ℕ
+look_times_of takers.Followed a = a.followed
+look_times_of takers.Former a = a.former
+look_times_of takers.Tried a = a.others
+look_times_of takers.Begins a = a.others
+look_times_of takers.NoRun a = a.others
 
-abbrev pub with_other : ℕ → Asked → Asked
+abbrev pub with_other : ℕ → LookTimes → LookTimes
 with_other now a = record { followed = a.followed; former = a.former; others = now ∷ a.others }
 
 -- one more
-abbrev pub with_asked : Taker → ℕ → Asked → Asked
+abbrev pub with_asked : Taker → ℕ → LookTimes → LookTimes
 with_asked takers.Followed now a =
     record { followed = now ∷ a.followed; former = a.former; others = a.others }
 with_asked takers.Former now a =
@@ -45,7 +45,7 @@ pub record AreBudgets (now : ℕ) (b : Budgets) : Type 0 where
   pub former : IsBudget 12000 now b.former
   pub others : IsBudget 12000 now b.others
 
-pub record AskedStand (b : Budgets) (a : Asked) : Type 0 where
+pub record AskedStand (b : Budgets) (a : LookTimes) : Type 0 where
   pub followed : BudgetStands b.followed a.followed
   pub former : BudgetStands b.former a.former
   pub others : BudgetStands b.others a.others

@@ -11,8 +11,8 @@ use Rattle.session_intake.specs.declared.counts.Counts.{Counts}
 abbrev pub one_more : ℕ → ℕ
 one_more n = min (n + 1) 18446744073709551615
 
-abbrev pub none : Counts
-none = record {
+abbrev pub nothing_counted : Counts
+nothing_counted = record {
   taken = 0;
   long = 0;
   malformed = 0;
@@ -40,7 +40,7 @@ after_mark marks.Patched c = record c { patched = one_more c.patched }
 after_mark marks.Held c = record c { held = one_more c.held }
 
 -- Of the stream that is followed plays are counted.
-abbrev pub after_play : Run → Mark → Counts → Counts
-after_play runs.Followed mark c = after_mark mark c
-after_play runs.Former mark c = c
-after_play runs.Tried mark c = c
+abbrev pub counts_after_play : Run → Mark → Counts → Counts
+counts_after_play runs.Followed mark c = after_mark mark c
+counts_after_play runs.Former mark c = c
+counts_after_play runs.Tried mark c = c

@@ -13,8 +13,8 @@ use Rattle.session_intake.specs.declared.seen.Cause.{Cause}
 use Rattle.session_intake.specs.declared.seen.Cause.TheVariants as causes
 
 -- what a packet with this header says, where it is of the call's pictures
-abbrev pub seen_of : Params → ℕ → Rtp → Header → Result Seen Cause
-seen_of p source rtp h =
+abbrev pub header_seen : Params → ℕ → Rtp → Header → Result Seen Cause
+header_seen p source rtp h =
     if period_of h.clock == period_of p.clock
     then Ok (record {
       source = source;
@@ -27,7 +27,7 @@ abbrev pub cause_of : List ℕ → Cause
 cause_of own = if is_some (start_in own) then causes.OtherPictures else causes.Malformed
 
 abbrev pub with_start : Params → ℕ → List ℕ → Rtp → Result Header Fault → Result Seen Cause
-with_start p source own rtp (Ok h) = seen_of p source rtp h
+with_start p source own rtp (Ok h) = header_seen p source rtp h
 with_start p source own rtp (Err fault) = Err (cause_of own)
 
 abbrev pub with_rtp : Params → ℕ → List ℕ → Result Rtp Fault → Result Seen Cause

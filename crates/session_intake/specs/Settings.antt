@@ -2,7 +2,7 @@
 use Rattle.std.specs.Prelude.{◌≡◌, ℕ, ◌*◌, ◌/◌, ◌<◌, ◌≤◌, ◌||◌, max, nat_lt, Result, Ok, Err, if◌then◌else◌}
 use Rattle.h263_types.specs.declared.params.Params.{Params}
 use Rattle.h263_types.specs.declared.params.ParamFault.{ParamFault}
-use Rattle.h263_types.specs.Params.{IsParams, ranges, verdict_of}
+use Rattle.h263_types.specs.Params.{IsParams, ranges, range_verdict}
 use Rattle.h263_types.specs.Clocks.{period_of}
 use Rattle.stream_numbers.specs.Placing.{IsRate}
 use Rattle.session_intake.specs.declared.settings.Settings.{Settings}
@@ -30,7 +30,7 @@ with_params p (Ok u) rate second wait = with_rate p rate second wait
 
 -- What they are where they can be. A wait of less than a millisecond counts as one.
 abbrev pub settings_of : Params → ℕ → ℕ → ℕ → Result Settings SettingFault
-settings_of p rate second wait = with_params p (verdict_of (ranges p)) rate second (max wait 1000000)
+settings_of p rate second wait = with_params p (range_verdict (ranges p)) rate second (max wait 1000000)
 
 -- the settings that there are
 pub record IsSettings (s : Settings) : Type 0 where

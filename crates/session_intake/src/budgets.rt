@@ -1,7 +1,7 @@
 //! How many packets are looked at.
 ghost use Rattle.std.specs.Prelude.{◌≡◌, ◌≤◌, ℕ};
 ghost use Rattle.stream_choice.specs.Granting.{is_granted};
-ghost use Rattle.session_intake.specs.Asked.{AreBudgets, Asked, AskedStand, asked_of, no_asked, with_asked};
+ghost use Rattle.session_intake.specs.Asked.{AreBudgets, LookTimes, AskedStand, look_times_of, no_asked, with_asked};
 
 use stream_choice::{Budget, Taker};
 
@@ -34,9 +34,9 @@ impl Budgets {
     pub fn grants(&mut self, taker: Taker, now: u64) -> bool
         requires { AreBudgets now self.old }
         ensures are { AreBudgets now self.new }
-        ensures answer { (a : Asked) → AskedStand self.old a
-            → result ≡ is_granted 12000 now (asked_of taker a) }
-        ensures stands { (a : Asked) → AskedStand self.old a
+        ensures answer { (a : LookTimes) → AskedStand self.old a
+            → result ≡ is_granted 12000 now (look_times_of taker a) }
+        ensures stands { (a : LookTimes) → AskedStand self.old a
             → AskedStand self.new (with_asked taker now a) }
     {
         match taker {

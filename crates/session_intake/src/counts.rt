@@ -1,6 +1,6 @@
 //! What a session counts.
 ghost use Rattle.std.specs.Prelude.{◌≡◌};
-ghost use Rattle.session_intake.specs.Counts.{after_drop, after_mark, after_play, after_taken, none};
+ghost use Rattle.session_intake.specs.Counts.{after_drop, after_mark, counts_after_play, after_taken, nothing_counted};
 
 use crate::seen::Cause;
 use h263_types::Mark;
@@ -24,7 +24,7 @@ pub struct Counts {
 impl Counts {
     /// Nothing came.
     pub fn none() -> Counts
-        ensures { result ≡ none }
+        ensures { result ≡ nothing_counted }
     {
         Counts {
             taken: 0,
@@ -72,7 +72,7 @@ impl Counts {
 
     /// A picture of a run was played: counted is that of the stream that is followed.
     pub fn play_of(&mut self, run: Run, mark: Mark)
-        ensures { self.new ≡ after_play run mark self.old }
+        ensures { self.new ≡ counts_after_play run mark self.old }
     {
         match run {
             Run::Followed => self.play(mark),

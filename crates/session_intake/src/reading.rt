@@ -4,7 +4,7 @@ ghost use Rattle.h263_types.specs.Clocks.{period_of};
 ghost use Rattle.picture_header.specs.Ranges.{IsHeader};
 ghost use Rattle.rtp_source.specs.Source.{renamed};
 ghost use Rattle.rtp_header.specs.Faults.{rtp_in};
-ghost use Rattle.session_intake.specs.Datagrams.{cause_of, seen_in, seen_of, with_rtp};
+ghost use Rattle.session_intake.specs.Datagrams.{cause_of, seen_in, header_seen, with_rtp};
 
 use crate::seen::{Cause, Seen};
 use h263_types::Params;
@@ -17,7 +17,7 @@ use stream_numbers::Packet;
 // What a packet with this header says, where it is of the call's pictures.
 fn seen_of(params: &Params, source: u32, rtp: &Rtp, header: &Header) -> Result<Seen, Cause>
     requires { IsHeader header.now }
-    ensures exact { result ≡ seen_of params.now source rtp.now header.now }
+    ensures exact { result ≡ header_seen params.now source rtp.now header.now }
     ensures range { IfOk result (λ s. s.packet.reference < period_of params.now.clock) }
 {
     if header.clock.period() != params.clock.period() {

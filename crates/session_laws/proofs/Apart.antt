@@ -8,41 +8,44 @@ use Rattle.session_intake.specs.declared.seen.Seen.{Seen}
 use Rattle.session_intake.specs.declared.seen.Cause.{Cause}
 use Rattle.session_intake.specs.Datagrams.{seen_in}
 use Rattle.session_runs.specs.Histories.{Config}
-use Rattle.call_session.specs.Sessions.{Anew, Asked, Datagram, DatagramOf, Ended, Entry, State, Turn, after_grant, after_reading, asked_for, at, is_looked_at, outcome_of_reading, seen_of_one, session_run, taker_in, time_of}
-use Rattle.session_laws.specs.Undisturbed.{Followed, InOrder, IsBeside, Said, StaysLive, followed_in, is_from, is_from_other, newest_time, own_of, said_of, said_of_packet, said_with}
+use Rattle.call_session.specs.Sessions.{Anew, Asked, Datagram, DatagramOf, Ended, SessionEntry, SessionState, Turn, after_grant, after_reading, asked_for, at, is_looked_at, outcome_of_reading, seen_of_one, session_run, taker_in, session_time}
+use Rattle.session_laws.specs.Undisturbed.{Followed, InOrder, ComesBeside, Said, StaysLive, followed_in, is_from, is_from_other, newest_time, own_of, said_of_stream, said_of_packet, said_with}
 use Rattle.session_laws.proofs.Others.{by_others}
 use Rattle.session_laws.proofs.Own as own
 
 -- ---- the clock
 
-granted_now : (g : Bool) (c : Config) (seen : Seen) (t : Taker) (bytes : List ℕ) (st : State)
+granted_now : (g : Bool) (c : Config) (seen : Seen) (t : Taker) (bytes : List ℕ) (st : SessionState)
     → (after_grant c seen t bytes g (asked_for t st)).now ≡ st.now
 granted_now false c seen t bytes st = refl
 granted_now true c seen t bytes st = refl
 
-reading_now : (r : Result Seen Cause) (c : Config) (bytes : List ℕ) (st : State) → (after_reading c r bytes st).now
+reading_now : (r : Result Seen Cause) (c : Config) (bytes : List ℕ) (st : SessionState)
+    → (after_reading c r bytes st).now
     ≡ st.now
 reading_now (Err cause) c bytes st = refl
 reading_now (Ok seen) c bytes st =
     granted_now (is_looked_at (taker_in seen st) st) c seen (taker_in seen st) bytes st
 
 -- it stands at the time of an entry that is no earlier than those before
-pub set_to : (last newest now : ℕ) → last ≤ newest → newest ≤ now → now < 4611686018427387904 → time_of last now ≡ now
+pub set_to : (last newest now : ℕ) → last ≤ newest → newest ≤ now → now < 4611686018427387904
+    → session_time last now ≡ now
 set_to last newest now h i j = omega arith
 
 to_most : (a b n : ℕ) → a ≡ b → b ≡ n → a ≤ n
 to_most a b n e f = omega arith
 
-with_reading : (r : Result Seen Cause) (c : Config) (bytes : List ℕ) (now newest : ℕ) (st : State) → st.now ≤ newest
+with_reading : (r : Result Seen Cause) (c : Config) (bytes : List ℕ) (now newest : ℕ) (st : SessionState)
+    → st.now ≤ newest
     → newest ≤ now → now < 4611686018427387904 → (after_reading c r bytes (at now st)).now ≤ now
 with_reading r c bytes now newest st h i j =
-    to_most (after_reading c r bytes (at now st)).now (time_of st.now now) now
+    to_most (after_reading c r bytes (at now st)).now (session_time st.now now) now
     (reading_now r c bytes (at now st)) (set_to st.now newest now h i j)
 
-at_most : (last newest now : ℕ) → last ≤ newest → newest ≤ now → now < 4611686018427387904 → time_of last now ≤ now
+at_most : (last newest now : ℕ) → last ≤ newest → newest ≤ now → now < 4611686018427387904 → session_time last now ≤ now
 at_most last newest now h i j = omega arith
 
-pub reached : (c : Config) (past : List Entry) → InOrder past → (session_run c past).now ≤ newest_time past
+pub reached : (c : Config) (past : List SessionEntry) → InOrder past → (session_run c past).now ≤ newest_time past
 reached c [] o = omega arith
 reached c (Datagram bytes now ∷ past) o =
     with_reading (seen_in c.params bytes) c (renamed bytes) now (newest_time past) (session_run c past)
@@ -61,20 +64,21 @@ reached c (Anew now ∷ past) o =
 
 -- ---- with and without
 
-pub record Goes (c : Config) (source : ℕ) (before es owns : List Entry) : Type 0 where
-  pub said : said_of c source before es ≡ said_of c source before owns
+pub record Goes (c : Config) (source : ℕ) (before es owns : List SessionEntry) : Type 0 where
+  pub said : said_of_stream c source before es ≡ said_of_stream c source before owns
   pub same : followed_in (session_run c (es ++ before)) ≡ followed_in (session_run c (owns ++ before))
   pub source_is : is_of (session_run c (es ++ before)).follows.streams.followed source ≡ true
   pub now : (session_run c (es ++ before)).now ≤ newest_time (es ++ before)
   pub own_now : (session_run c (owns ++ before)).now ≤ newest_time (es ++ before)
 
-whose : (b : Bool) (c : Config) (source : ℕ) (before : List Entry) (e : Entry) (es owns : List Entry)
+whose : (b : Bool) (c : Config) (source : ℕ) (before : List SessionEntry) (e : SessionEntry)
+    (es owns : List SessionEntry)
     → (b ≡ true → Goes c source before (e ∷ es) (e ∷ owns)) → (b ≡ false → Goes c source before (e ∷ es) owns)
     → Goes c source before (e ∷ es) (cond b (e ∷ owns) owns)
 whose true c source before e es owns f g = f refl
 whose false c source before e es owns f g = g refl
 
-same_after : (r : Result Seen Cause) (c : Config) (source : ℕ) (bytes : List ℕ) (now : ℕ) (a b : State)
+same_after : (r : Result Seen Cause) (c : Config) (source : ℕ) (bytes : List ℕ) (now : ℕ) (a b : SessionState)
     → is_from source r ≡ true → a.now ≡ now → b.now ≡ now → followed_in a ≡ followed_in b
     → is_of a.follows.streams.followed source ≡ true
     → followed_in (after_reading c r bytes a) ≡ followed_in (after_reading c r bytes b)
@@ -84,7 +88,7 @@ same_after r c source bytes now a b e f g same h =
     ∙ ap (own.after r c bytes b.now) same
     ∙ sym (own.by_own r c source bytes b e (sym (ap (λ (v : Followed). is_of v.stream source) same) ∙ h))
 
-same_outcome : (r : Result Seen Cause) (c : Config) (source : ℕ) (bytes : List ℕ) (now : ℕ) (a b : State)
+same_outcome : (r : Result Seen Cause) (c : Config) (source : ℕ) (bytes : List ℕ) (now : ℕ) (a b : SessionState)
     → is_from source r ≡ true → a.now ≡ now → b.now ≡ now → followed_in a ≡ followed_in b
     → is_of a.follows.streams.followed source ≡ true
     → outcome_of_reading c r bytes a ≡ outcome_of_reading c r bytes b
@@ -94,7 +98,8 @@ same_outcome r c source bytes now a b e f g same h =
     ∙ ap (own.outcome r c bytes b.now) same
     ∙ sym (own.outcome_own r c source bytes b e (sym (ap (λ (v : Followed). is_of v.stream source) same) ∙ h))
 
-source_after : (r : Result Seen Cause) (c : Config) (source : ℕ) (bytes : List ℕ) (a : State) → is_from source r ≡ true
+source_after : (r : Result Seen Cause) (c : Config) (source : ℕ) (bytes : List ℕ) (a : SessionState)
+    → is_from source r ≡ true
     → is_of a.follows.streams.followed source ≡ true
     → is_of (after_reading c r bytes a).follows.streams.followed source ≡ true
 source_after r c source bytes a e h =
@@ -105,7 +110,7 @@ said_both : (x y : List Said) (a b : List Said) → x ≡ y → a ≡ b → x ++
 said_both x y a b e f = ap (λ (l : List Said). l ++ a) e ∙ ap (λ (l : List Said). y ++ l) f
 
 -- what a packet of it gives, at this time, after what came with others' and without
-record OwnGoes (r : Result Seen Cause) (c : Config) (source : ℕ) (bytes : List ℕ) (now : ℕ) (a b : State)
+record OwnGoes (r : Result Seen Cause) (c : Config) (source : ℕ) (bytes : List ℕ) (now : ℕ) (a b : SessionState)
     (x y : List Said) : Type 0 where
   said : said_of_packet (is_from source r) (outcome_of_reading c r bytes (at now a)) ++ x
       ≡ said_of_packet (is_from source r) (outcome_of_reading c r bytes (at now b)) ++ y
@@ -114,11 +119,12 @@ record OwnGoes (r : Result Seen Cause) (c : Config) (source : ℕ) (bytes : List
   then : (after_reading c r bytes (at now a)).now ≤ now
   own_then : (after_reading c r bytes (at now b)).now ≤ now
 
-own_goes : (r : Result Seen Cause) (c : Config) (source : ℕ) (bytes : List ℕ) (now : ℕ) (before es owns : List Entry)
+own_goes : (r : Result Seen Cause) (c : Config) (source : ℕ) (bytes : List ℕ) (now : ℕ)
+    (before es owns : List SessionEntry)
     → newest_time (es ++ before) ≤ now → now < 4611686018427387904
     → Goes c source before es owns → is_from source r ≡ true
     → OwnGoes r c source bytes now (session_run c (es ++ before)) (session_run c (owns ++ before))
-    (said_of c source before es) (said_of c source before owns)
+    (said_of_stream c source before es) (said_of_stream c source before owns)
 own_goes r c source bytes now before es owns i j k e =
     let a = session_run c (es ++ before) in
     let b = session_run c (owns ++ before) in
@@ -127,7 +133,7 @@ own_goes r c source bytes now before es owns i j k e =
     record {
       said = said_both (said_of_packet (is_from source r) (outcome_of_reading c r bytes (at now a)))
           (said_of_packet (is_from source r) (outcome_of_reading c r bytes (at now b)))
-          (said_of c source before es) (said_of c source before owns)
+          (said_of_stream c source before es) (said_of_stream c source before owns)
           (ap (said_of_packet (is_from source r))
           (same_outcome r c source bytes now (at now a) (at now b) e f g k.same k.source_is)) k.said;
       same = same_after r c source bytes now (at now a) (at now b) e f g k.same k.source_is;
@@ -136,16 +142,16 @@ own_goes r c source bytes now before es owns i j k e =
       own_then = with_reading r c bytes now (newest_time (es ++ before)) b k.own_now i j;
     }
 
-beside_at : (r : Result Seen Cause) (n m : ℕ) (o p former : Option Stream) → n ≡ m → o ≡ p → IsBeside r n o former
-    → IsBeside r m p former
+beside_at : (r : Result Seen Cause) (n m : ℕ) (o p former : Option Stream) → n ≡ m → o ≡ p → ComesBeside r n o former
+    → ComesBeside r m p former
 beside_at r n m o p former e f x =
-    subst (λ (k : ℕ). IsBeside r k p former) e (subst (λ (q : Option Stream). IsBeside r n q former) f x)
+    subst (λ (k : ℕ). ComesBeside r k p former) e (subst (λ (q : Option Stream). ComesBeside r n q former) f x)
 
 le_later : (a b n : ℕ) → a ≤ b → b ≤ n → a ≤ n
 le_later a b n h i = omega arith
 
 -- and one of others
-record OthersGo (r : Result Seen Cause) (c : Config) (source : ℕ) (bytes : List ℕ) (now : ℕ) (a b : State)
+record OthersGo (r : Result Seen Cause) (c : Config) (source : ℕ) (bytes : List ℕ) (now : ℕ) (a b : SessionState)
     (x y : List Said) : Type 0 where
   said : said_of_packet (is_from source r) (outcome_of_reading c r bytes (at now a)) ++ x ≡ y
   same : followed_in (after_reading c r bytes (at now a)) ≡ followed_in b
@@ -153,24 +159,26 @@ record OthersGo (r : Result Seen Cause) (c : Config) (source : ℕ) (bytes : Lis
   then : (after_reading c r bytes (at now a)).now ≤ now
   own_then : b.now ≤ now
 
-others_go : (r : Result Seen Cause) (c : Config) (source : ℕ) (bytes : List ℕ) (now : ℕ) (before es owns : List Entry)
+others_go : (r : Result Seen Cause) (c : Config) (source : ℕ) (bytes : List ℕ) (now : ℕ)
+    (before es owns : List SessionEntry)
     → newest_time (es ++ before) ≤ now → now < 4611686018427387904
     → (is_from_other source r ≡ true
-    → IsBeside r now (session_run c (owns ++ before)).follows.streams.followed
+    → ComesBeside r now (session_run c (owns ++ before)).follows.streams.followed
     (session_run c (es ++ before)).follows.streams.former)
     → Goes c source before es owns → is_from source r ≡ false
     → OthersGo r c source bytes now (session_run c (es ++ before)) (session_run c (owns ++ before))
-    (said_of c source before es) (said_of c source before owns)
+    (said_of_stream c source before es) (said_of_stream c source before owns)
 others_go r c source bytes now before es owns i j x k e =
     let a = session_run c (es ++ before) in
     let b = session_run c (owns ++ before) in
     let f = set_to a.now (newest_time (es ++ before)) now k.now i j in
     let left = by_others r c source bytes (at now a) e k.source_is (λ y.
-    beside_at r now (time_of a.now now) b.follows.streams.followed a.follows.streams.followed a.follows.streams.former
+    beside_at r now (session_time a.now now) b.follows.streams.followed a.follows.streams.followed
+    a.follows.streams.former
     (sym f) (sym (ap (λ (v : Followed). v.stream) k.same)) (x y)) in
     record {
       said = ap (λ (y : Bool). said_of_packet y (outcome_of_reading c r bytes (at now a))
-          ++ said_of c source before es) e
+          ++ said_of_stream c source before es) e
           ∙ k.said;
       same = left ∙ k.same;
       source_is = ap (λ (v : Followed). is_of v.stream source) left ∙ k.source_is;
@@ -178,7 +186,7 @@ others_go r c source bytes now before es owns i j x k e =
       own_then = le_later b.now (newest_time (es ++ before)) now k.own_now i;
     }
 
-turn : (c : Config) (source : ℕ) (before : List Entry) (now : ℕ) (es owns : List Entry)
+turn : (c : Config) (source : ℕ) (before : List SessionEntry) (now : ℕ) (es owns : List SessionEntry)
     → newest_time (es ++ before) ≤ now → now < 4611686018427387904
     → Goes c source before es owns
     → Goes c source before (Turn now ∷ es) (Turn now ∷ owns)
@@ -189,23 +197,23 @@ turn c source before now es owns i j k =
     let g = set_to b.now (newest_time (es ++ before)) now k.own_now i j in
     record {
       said = said_both (said_with c source (Turn now) a) (said_with c source (Turn now) b)
-          (said_of c source before es) (said_of c source before owns)
+          (said_of_stream c source before es) (said_of_stream c source before owns)
           (own.said_at_turn c (at now a)
           ∙ ap (λ (n : ℕ). own.said c n (followed_in a)) (f ∙ sym g)
-          ∙ ap (own.said c (time_of b.now now)) k.same
+          ∙ ap (own.said c (session_time b.now now)) k.same
           ∙ sym (own.said_at_turn c (at now b))) k.said;
       same = own.by_turn c (at now a)
           ∙ ap (λ (n : ℕ). own.after_turn c n (followed_in a)) (f ∙ sym g)
-          ∙ ap (own.after_turn c (time_of b.now now)) k.same
+          ∙ ap (own.after_turn c (session_time b.now now)) k.same
           ∙ sym (own.by_turn c (at now b));
       source_is = ap (λ (v : Followed). is_of v.stream source) (own.by_turn c (at now a))
-          ∙ ap (λ (o : Option Stream). is_of o source) (own.of_turn c (time_of a.now now) (followed_in a))
+          ∙ ap (λ (o : Option Stream). is_of o source) (own.of_turn c (session_time a.now now) (followed_in a))
           ∙ k.source_is;
-      now = to_most (time_of a.now now) now now f refl;
-      own_now = to_most (time_of b.now now) now now g refl;
+      now = to_most (session_time a.now now) now now f refl;
+      own_now = to_most (session_time b.now now) now now g refl;
     }
 
-asked : (c : Config) (source : ℕ) (before : List Entry) (round_trip now : ℕ) (es owns : List Entry)
+asked : (c : Config) (source : ℕ) (before : List SessionEntry) (round_trip now : ℕ) (es owns : List SessionEntry)
     → newest_time (es ++ before) ≤ now → now < 4611686018427387904
     → Goes c source before es owns
     → Goes c source before (Asked round_trip now ∷ es) (Asked round_trip now ∷ owns)
@@ -216,21 +224,21 @@ asked c source before round_trip now es owns i j k =
     let g = set_to b.now (newest_time (es ++ before)) now k.own_now i j in
     record {
       said = said_both (said_with c source (Asked round_trip now) a) (said_with c source (Asked round_trip now) b)
-          (said_of c source before es) (said_of c source before owns)
+          (said_of_stream c source before es) (said_of_stream c source before owns)
           (own.said_at_asked c round_trip (at now a)
           ∙ ap (λ (n : ℕ). own.asked c round_trip n (followed_in a)) (f ∙ sym g)
-          ∙ ap (own.asked c round_trip (time_of b.now now)) k.same
+          ∙ ap (own.asked c round_trip (session_time b.now now)) k.same
           ∙ sym (own.said_at_asked c round_trip (at now b))) k.said;
       same = own.by_asked c round_trip (at now a)
           ∙ ap (λ (n : ℕ). own.after_asked c round_trip n (followed_in a)) (f ∙ sym g)
-          ∙ ap (own.after_asked c round_trip (time_of b.now now)) k.same
+          ∙ ap (own.after_asked c round_trip (session_time b.now now)) k.same
           ∙ sym (own.by_asked c round_trip (at now b));
       source_is = k.source_is;
-      now = to_most (time_of a.now now) now now f refl;
-      own_now = to_most (time_of b.now now) now now g refl;
+      now = to_most (session_time a.now now) now now f refl;
+      own_now = to_most (session_time b.now now) now now g refl;
     }
 
-own_end : (c : Config) (source : ℕ) (before : List Entry) (other now : ℕ) (es owns : List Entry)
+own_end : (c : Config) (source : ℕ) (before : List SessionEntry) (other now : ℕ) (es owns : List SessionEntry)
     → newest_time (es ++ before) ≤ now → now < 4611686018427387904
     → Goes c source before es owns
     → Goes c source before (Ended other now ∷ es) (Ended other now ∷ owns)
@@ -243,21 +251,21 @@ own_end c source before other now es owns i j k =
       said = k.said;
       same = own.by_end other (at now a)
           ∙ ap (λ (n : ℕ). own.after_end other n (followed_in a)) (f ∙ sym g)
-          ∙ ap (own.after_end other (time_of b.now now)) k.same
+          ∙ ap (own.after_end other (session_time b.now now)) k.same
           ∙ sym (own.by_end other (at now b));
-      source_is = own.of_end a.follows.streams.followed other (time_of a.now now) source ∙ k.source_is;
-      now = to_most (time_of a.now now) now now f refl;
-      own_now = to_most (time_of b.now now) now now g refl;
+      source_is = own.of_end a.follows.streams.followed other (session_time a.now now) source ∙ k.source_is;
+      now = to_most (session_time a.now now) now now f refl;
+      own_now = to_most (session_time b.now now) now now g refl;
     }
 
-others_end : (c : Config) (source : ℕ) (before : List Entry) (other now : ℕ) (es owns : List Entry)
+others_end : (c : Config) (source : ℕ) (before : List SessionEntry) (other now : ℕ) (es owns : List SessionEntry)
     → newest_time (es ++ before) ≤ now → now < 4611686018427387904
     → Goes c source before es owns → eqb other source ≡ false
     → Goes c source before (Ended other now ∷ es) owns
 others_end c source before other now es owns i j k e =
     let a = session_run c (es ++ before) in
     let b = session_run c (owns ++ before) in
-    let left = own.left_by_end a.follows.streams.followed other (time_of a.now now) source k.source_is e in
+    let left = own.left_by_end a.follows.streams.followed other (session_time a.now now) source k.source_is e in
     record {
       said = k.said;
       same = ap (λ (o : Option Stream). let v : Followed = record {
@@ -273,7 +281,7 @@ others_end c source before other now es owns i j k e =
       own_now = le_later b.now (newest_time (es ++ before)) now k.own_now i;
     }
 
-pub goes : (c : Config) (source : ℕ) (before es : List Entry)
+pub goes : (c : Config) (source : ℕ) (before es : List SessionEntry)
     → is_of (session_run c before).follows.streams.followed source ≡ true
     → InOrder (es ++ before) → StaysLive c source before es → Goes c source before es (own_of c source es)
 goes c source before [] h o s =
@@ -311,10 +319,10 @@ goes c source before (DatagramOf only bytes now ∷ es) h o s =
     (λ e. let g = others_go r c source (renamed bytes) now before es (own_of c source es) o.0 o.1 s.0 k e in
     record { said = g.said; same = g.same; source_is = g.source_is; now = g.then; own_now = g.own_then })
 
-pub undisturbed : (c : Config) (source : ℕ) (before es : List Entry)
+pub undisturbed : (c : Config) (source : ℕ) (before es : List SessionEntry)
     → is_of (session_run c before).follows.streams.followed source ≡ true
     → InOrder (es ++ before) → StaysLive c source before es
-    → (said_of c source before es ≡ said_of c source before (own_of c source es))
+    → (said_of_stream c source before es ≡ said_of_stream c source before (own_of c source es))
     × (followed_in (session_run c (es ++ before)) ≡ followed_in (session_run c (own_of c source es ++ before)))
     × (is_of (session_run c (es ++ before)).follows.streams.followed source ≡ true)
 undisturbed c source before es h o s =

@@ -14,7 +14,7 @@ use Rattle.session_intake.specs.declared.seen.Seen.{Seen}
 use Rattle.session_intake.specs.declared.seen.Cause.{Cause}
 use Rattle.session_runs.specs.Histories.{Config}
 use Rattle.call_session.specs.Sessions as session
-use Rattle.session_laws.specs.Undisturbed.{Followed, InOrder, IsBeside, IsLive, StaysLive, followed_in, is_from_other, is_of_former, newest_time, own_of, said_of}
+use Rattle.session_laws.specs.Undisturbed.{Followed, InOrder, ComesBeside, IsLive, StaysLive, followed_in, is_from_other, is_of_former, newest_time, own_of, said_of_stream}
 use Rattle.session_laws.proofs.Apart.{goes, set_to, undisturbed}
 use Rattle.session_laws.proofs.Marking.{Shows, complete_if, noted_by}
 use Rattle.session_laws.proofs.Recovered.{completes_by, lines_for, played_streams, seen_streams, shows_in, streams_by}
@@ -51,7 +51,7 @@ not_former None source e h = true≢false (sym h)
 not_former (Some f) source e h = absurd cc
 
 -- by its taker: a stream is live where it isn't the one that is followed
-by_taker : (g : Bool) (t : Taker) (c : Config) (seen : Seen) (own : List ℕ) (st : session.State)
+by_taker : (g : Bool) (t : Taker) (c : Config) (seen : Seen) (own : List ℕ) (st : session.SessionState)
     → Shows (choice.is_of st.follows.streams.followed seen.source) (choice.is_of st.follows.streams.former seen.source)
     (choice.is_tried st.follows.streams.tried seen.source st.now) t
     → st.follows.streams.former ≡ None
@@ -80,7 +80,7 @@ other_source seen source o h i = by (eqb seen.source source) (eqb-true seen.sour
     by true f =
         absurd (true≢false (sym h ∙ ap (λ (n : ℕ). choice.is_of o n) (sym (f refl)) ∙ i))
 
-by_reading : (r : Result Seen Cause) (c : Config) (source : ℕ) (own : List ℕ) (st : session.State)
+by_reading : (r : Result Seen Cause) (c : Config) (source : ℕ) (own : List ℕ) (st : session.SessionState)
     → choice.is_of st.follows.streams.followed source ≡ true
     → st.follows.streams.former ≡ None
     → (is_from_other source r ≡ true → choice.is_live_one st.follows.streams.followed st.now ≡ true)
@@ -105,14 +105,15 @@ live_at : (o p : Option Stream) (n m : ℕ) → o ≡ p → n ≡ m → choice.i
 live_at o p n m e f h =
     sym (ap (λ (x : Option Stream). choice.is_live_one x m) e) ∙ sym (ap (choice.is_live_one o) f) ∙ h
 
-packet : (r : Result Seen Cause) (c : Config) (source : ℕ) (bytes : List ℕ) (now : ℕ) (before es : List session.Entry)
+packet : (r : Result Seen Cause) (c : Config) (source : ℕ) (bytes : List ℕ) (now : ℕ)
+    (before es : List session.SessionEntry)
     → choice.is_of (session.session_run c before).follows.streams.followed source ≡ true
     → newest_time (es ++ before) ≤ now → now < 4611686018427387904 → InOrder (es ++ before)
     → StaysLive c source before es × ((session.session_run c (es ++ before)).follows.streams.former ≡ None)
     → (is_from_other source r ≡ true
     → choice.is_live_one (session.session_run c (own_of c source es ++ before)).follows.streams.followed now ≡ true)
     → (is_from_other source r ≡ true
-    → IsBeside r now (session.session_run c (own_of c source es ++ before)).follows.streams.followed
+    → ComesBeside r now (session.session_run c (own_of c source es ++ before)).follows.streams.followed
     (session.session_run c (es ++ before)).follows.streams.former)
     × ((session.after_reading c r bytes (session.at now (session.session_run c (es ++ before)))).follows.streams.former
     ≡ None)
@@ -124,11 +125,12 @@ packet r c source bytes now before es h i j o k l =
     let same = ap (λ (v : Followed). v.stream) m.same in (
       λ x. record { live = l x; behind = λ y. absurd (no_former a.follows.streams.former r k.1 y) },
       by_reading r c source bytes (session.at now a) m.source_is k.1
-          (λ x. live_at b.follows.streams.followed a.follows.streams.followed now (session.time_of a.now now) (sym same)
+          (λ x. live_at b.follows.streams.followed a.follows.streams.followed now (session.session_time a.now now)
+          (sym same)
           (sym now_is) (l x)),
     )
 
-stays : (c : Config) (source : ℕ) (before es : List session.Entry)
+stays : (c : Config) (source : ℕ) (before es : List session.SessionEntry)
     → choice.is_of (session.session_run c before).follows.streams.followed source ≡ true
     → (session.session_run c before).follows.streams.former ≡ None
     → InOrder (es ++ before) → IsLive c source before es
@@ -150,11 +152,11 @@ stays c source before (session.DatagramOf only bytes now ∷ es) h n o l =
     let g = packet (session.seen_of_one c only bytes) c source (renamed bytes) now before es h o.0 o.1 o.2 k l.0 in
     ((g.0, k.0), g.1)
 
-pub undisturbed_first : (c : Config) (source : ℕ) (before es : List session.Entry)
+pub undisturbed_first : (c : Config) (source : ℕ) (before es : List session.SessionEntry)
     → choice.is_of (session.session_run c before).follows.streams.followed source ≡ true
     → (session.session_run c before).follows.streams.former ≡ None
     → InOrder (es ++ before) → IsLive c source before es
-    → (said_of c source before es ≡ said_of c source before (own_of c source es))
+    → (said_of_stream c source before es ≡ said_of_stream c source before (own_of c source es))
     × (followed_in (session.session_run c (es ++ before))
     ≡ followed_in (session.session_run c (own_of c source es ++ before)))
     × (choice.is_of (session.session_run c (es ++ before)).follows.streams.followed source ≡ true)

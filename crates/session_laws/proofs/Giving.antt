@@ -24,9 +24,9 @@ use Rattle.stream_numbers.specs.Streams.{place_of}
 use Rattle.playout_times.specs.declared.arrival.Arrival.{Arrival}
 use Rattle.timed_receiver.specs.Timed as timed
 use Rattle.stream_run.specs.Entries as run
-use Rattle.session_runs.specs.Histories.{Config, History, entries_in, next_in, timed_in}
+use Rattle.session_runs.specs.Histories.{Config, History, history_entries, next_number_in, timed_in}
 use Rattle.session_laws.specs.Undisturbed.{play_in}
-use Rattle.session_laws.specs.InTime.{AreOfSender, Brings, HasPacket, IsPlacedAt, Plays, Sends, Step, Takes, entries_of, events_of, given}
+use Rattle.session_laws.specs.InTime.{AreOfSender, Brings, HasPacket, IsPlacedAt, Plays, Sends, CallStep, Takes, run_entries, call_events, given_entries}
 
 -- ---- what comes is given
 
@@ -40,17 +40,17 @@ kept_place : (b : Bool) (first : ℕ) (bytes other : List ℕ) (a : Arrival) (pa
     → HasPacket bytes (timed.entries_of first (cond b past (timed.Came other a ∷ past)))
 kept_place true first bytes other a past h = h
 kept_place false first bytes other a past h =
-    kept_if (ltb a.picture (timed.next_after first past)) bytes other (timed.entries_of first past) h
+    kept_if (ltb a.picture (timed.next_number_after first past)) bytes other (timed.entries_of first past) h
 
 kept_by : (o : Option Place) (first lead : ℕ) (bytes other : List ℕ) (now : ℕ) (past : List timed.Entry)
     → HasPacket bytes (timed.entries_of first past)
     → HasPacket bytes (timed.entries_of first (run.with_place first lead o other now past))
 kept_by None first lead bytes other now past h = h
 kept_by (Some place) first lead bytes other now past h =
-    kept_place (ltb (timed.next_after first past + lead) place.number) first bytes other
+    kept_place (ltb (timed.next_number_after first past + lead) place.number) first bytes other
     (record { picture = place.number; captured = place.captured; at = now }) past h
 
-stays : (r : Rate) (first lead : ℕ) (bytes : List ℕ) (later earlier : List run.Entry)
+stays : (r : Rate) (first lead : ℕ) (bytes : List ℕ) (later earlier : List run.StreamEntry)
     → HasPacket bytes (timed.entries_of first (run.timed_of r first lead earlier))
     → HasPacket bytes (timed.entries_of first (run.timed_of r first lead (later ++ earlier)))
 stays r first lead bytes [] earlier h = h
@@ -61,28 +61,28 @@ stays r first lead bytes (run.Shown now ∷ later) earlier h = stays r first lea
 
 -- no picture is played twice
 next_if : (b : Bool) (first : ℕ) (other : List ℕ) (a : Arrival) (past : List timed.Entry)
-    → timed.next_after first (cond b past (timed.Came other a ∷ past)) ≡ timed.next_after first past
+    → timed.next_number_after first (cond b past (timed.Came other a ∷ past)) ≡ timed.next_number_after first past
 next_if true first other a past = refl
 next_if false first other a past = refl
 
 next_by : (o : Option Place) (first lead : ℕ) (other : List ℕ) (now : ℕ) (past : List timed.Entry)
-    → timed.next_after first (run.with_place first lead o other now past) ≡ timed.next_after first past
+    → timed.next_number_after first (run.with_place first lead o other now past) ≡ timed.next_number_after first past
 next_by None first lead other now past = refl
 next_by (Some place) first lead other now past =
-    next_if (ltb (timed.next_after first past + lead) place.number) first other
+    next_if (ltb (timed.next_number_after first past + lead) place.number) first other
     (record { picture = place.number; captured = place.captured; at = now }) past
 
-grows : (r : Rate) (first lead : ℕ) (later earlier : List run.Entry)
-    → timed.next_after first (run.timed_of r first lead earlier)
-    ≤ timed.next_after first (run.timed_of r first lead (later ++ earlier))
+grows : (r : Rate) (first lead : ℕ) (later earlier : List run.StreamEntry)
+    → timed.next_number_after first (run.timed_of r first lead earlier)
+    ≤ timed.next_number_after first (run.timed_of r first lead (later ++ earlier))
 grows r first lead [] earlier = omega arith
 grows r first lead (run.Came packet other now ∷ later) earlier =
     let k = grows r first lead later earlier in
     let e = next_by (place_of r (run.heard_of (later ++ earlier)) packet now) first lead other now
     (run.timed_of r first lead (later ++ earlier)) in
-    no_less (timed.next_after first (run.timed_of r first lead earlier))
-    (timed.next_after first (run.timed_of r first lead (later ++ earlier)))
-    (timed.next_after first (run.timed_of r first lead (run.Came packet other now ∷ (later ++ earlier)))) k e
+    no_less (timed.next_number_after first (run.timed_of r first lead earlier))
+    (timed.next_number_after first (run.timed_of r first lead (later ++ earlier)))
+    (timed.next_number_after first (run.timed_of r first lead (run.Came packet other now ∷ (later ++ earlier)))) k e
   where
     no_less : (a b c : ℕ) → a ≤ b → c ≡ b → a ≤ c
     no_less a b c h e = omega arith
@@ -91,7 +91,7 @@ grows r first lead (run.Shown now ∷ later) earlier =
     omega (arith, k)
 
 here : (b d : Bool) (first : ℕ) (bytes : List ℕ) (a : Arrival) (past : List timed.Entry) → b ≡ false → d ≡ false
-    → d ≡ ltb a.picture (timed.next_after first past)
+    → d ≡ ltb a.picture (timed.next_number_after first past)
     → HasPacket bytes (timed.entries_of first (cond b past (timed.Came bytes a ∷ past)))
 here true d first bytes a past e f g = absurd cc
 here false d first bytes a past e f g =
@@ -100,38 +100,44 @@ here false d first bytes a past e f g =
     (sym f ∙ g) (inl refl)
 
 placed : (o : Option Place) (place : Place) (first lead : ℕ) (bytes : List ℕ) (now : ℕ) (past : List timed.Entry)
-    → o ≡ Some place → place.number ≤ timed.next_after first past + lead → timed.next_after first past ≤ place.number
+    → o ≡ Some place → place.number ≤ timed.next_number_after first past + lead
+    → timed.next_number_after first past ≤ place.number
     → HasPacket bytes (timed.entries_of first (run.with_place first lead o bytes now past))
 placed o place first lead bytes now past e h i =
     subst (λ (x : Option Place). HasPacket bytes (timed.entries_of first (run.with_place first lead x bytes now past)))
     (sym e)
-    (here (ltb (timed.next_after first past + lead) place.number) (ltb place.number (timed.next_after first past)) first
+    (here (ltb (timed.next_number_after first past + lead) place.number)
+    (ltb place.number (timed.next_number_after first past)) first
     bytes
     (record { picture = place.number; captured = place.captured; at = now }) past
-    (le-ltb (timed.next_after first past + lead) place.number h) (le-ltb place.number (timed.next_after first past) i)
+    (le-ltb (timed.next_number_after first past + lead) place.number h)
+    (le-ltb place.number (timed.next_number_after first past) i)
     refl)
 
-pub given_in_time : (c : Config) (h : History) (later earlier : List run.Entry) (packet : Told) (bytes : List ℕ)
+pub given_in_time : (c : Config) (h : History) (later earlier : List run.StreamEntry) (packet : Told) (bytes : List ℕ)
     (at : ℕ)
     (place : Place)
     → h.past ≡ later ++ (run.Came packet bytes at ∷ earlier)
     → place_of c.rate (run.heard_of earlier) packet at ≡ Some place
-    → place.number ≡ next_in c h
-    → place.number ≤ timed.next_after h.first (run.timed_of c.rate h.first c.lead earlier) + c.lead
-    → HasPacket bytes (entries_in c h)
+    → place.number ≡ next_number_in c h
+    → place.number ≤ timed.next_number_after h.first (run.timed_of c.rate h.first c.lead earlier) + c.lead
+    → HasPacket bytes (history_entries c h)
 given_in_time c h later earlier packet bytes at place e f g i =
     let before = run.timed_of c.rate h.first c.lead earlier in
-    let all = ap (λ (l : List run.Entry). timed.next_after h.first (run.timed_of c.rate h.first c.lead l)) e in
+    let all = ap (λ (l : List run.StreamEntry). timed.next_number_after h.first (run.timed_of c.rate h.first c.lead l))
+    e in
     let l = grows c.rate h.first c.lead later (run.Came packet bytes at ∷ earlier) in
     let m = next_by (place_of c.rate (run.heard_of earlier) packet at) h.first c.lead bytes at before in
-    subst (λ (l : List run.Entry). HasPacket bytes (timed.entries_of h.first (run.timed_of c.rate h.first c.lead l)))
+    subst (λ (l : List run.StreamEntry). HasPacket bytes
+    (timed.entries_of h.first (run.timed_of c.rate h.first c.lead l)))
     (sym e)
     (stays c.rate h.first c.lead bytes later (run.Came packet bytes at ∷ earlier)
     (placed (place_of c.rate (run.heard_of earlier) packet at) place h.first c.lead bytes at before f i
-    (below (timed.next_after h.first before)
-    (timed.next_after h.first (run.timed_of c.rate h.first c.lead (run.Came packet bytes at ∷ earlier)))
-    (timed.next_after h.first (run.timed_of c.rate h.first c.lead (later ++ (run.Came packet bytes at ∷ earlier))))
-    (next_in c h) place.number m l all g)))
+    (below (timed.next_number_after h.first before)
+    (timed.next_number_after h.first (run.timed_of c.rate h.first c.lead (run.Came packet bytes at ∷ earlier)))
+    (timed.next_number_after h.first (run.timed_of c.rate h.first c.lead (later
+    ++ (run.Came packet bytes at ∷ earlier))))
+    (next_number_in c h) place.number m l all g)))
   where
     below : (a b d n p : ℕ) → b ≡ a → b ≤ d → n ≡ d → p ≡ n → a ≤ p
     below a b d n p e h f g = omega arith
@@ -149,12 +155,12 @@ module _ {Style Mb Picture Fault : Type 0} (decoding : Decoding Style Mb Picture
 
   same_run : (events : List Event)
       → received decoding rules source packets events
-      ≡ receiver_run decoding rules (given decoding rules source packets events)
+      ≡ receiver_run decoding rules (given_entries decoding rules source packets events)
   same_run [] = refl
   same_run (Send ∷ past) = same_run past
   same_run (Deliver n j ∷ past) =
       delivered (slice_get (packets (call_from decoding.pictures rules source past).coded n) j)
-      (received decoding rules source packets past) (given decoding rules source packets past) (same_run past)
+      (received decoding rules source packets past) (given_entries decoding rules source packets past) (same_run past)
   same_run (Play ∷ past) = ap (after_play decoding rules) (same_run past)
   same_run (Back k ∷ past) = same_run past
 
@@ -189,10 +195,11 @@ module _ {Style Mb Picture Fault : Type 0} (decoding : Decoding Style Mb Picture
   played_if false bytes past = refl
 
   played_is : (first : ℕ) (past : List timed.Entry)
-      → (receiver_run decoding rules (timed.entries_of first past)).played ≡ timed.next_after first past
+      → (receiver_run decoding rules (timed.entries_of first past)).played ≡ timed.next_number_after first past
   played_is first [] = alone_played first
   played_is first (timed.Came bytes a ∷ past) =
-      played_if (ltb a.picture (timed.next_after first past)) bytes (timed.entries_of first past) ∙ played_is first past
+      played_if (ltb a.picture (timed.next_number_after first past)) bytes (timed.entries_of first past)
+      ∙ played_is first past
   played_is first (timed.Shown now ∷ past) = ap (λ (n : ℕ). n + 1) (played_is first past)
 
 pub in_time : ((p : Params) → IsDecoding (decoding p.format) (rules_of p))
@@ -203,18 +210,20 @@ pub in_time : ((p : Params) → IsDecoding (decoding p.format) (rules_of p))
     → IsParams c.params
     → AllMayHappenFrom (decoding c.params.format).pictures (rules_of c.params) source count events
     → AllSound (decoding c.params.format) (rules_of c.params) source packets events
-    → entries_in c h ≡ given (decoding c.params.format) (rules_of c.params) source packets events
-    → slice_get (call_from (decoding c.params.format).pictures (rules_of c.params) source events).coded (next_in c h)
+    → history_entries c h ≡ given_entries (decoding c.params.format) (rules_of c.params) source packets events
+    → slice_get (call_from (decoding c.params.format).pictures (rules_of c.params) source events).coded
+    (next_number_in c h)
     ≡ Some x
     → is_full (call_from (decoding c.params.format).pictures (rules_of c.params) source events).coded
-    (call_from (decoding c.params.format).pictures (rules_of c.params) source events).arrivals (next_in c h) ≡ true
+    (call_from (decoding c.params.format).pictures (rules_of c.params) source events).arrivals (next_number_in c h)
+    ≡ true
     → ((play_in c h).mark ≡ Exact) × ((play_in c h).picture ≡ x.picture)
 in_time coded ruled law c h source packets count events x p may sound same sent full =
     let d = decoding c.params.format in
     let rules = rules_of c.params in
     let call = call_from d.pictures rules source events in
-    let r = receiver_run d rules (entries_in c h) in
-    let n = next_in c h in
+    let r = receiver_run d rules (history_entries c h) in
+    let n = next_number_in c h in
     let follows = law d rules (coded c.params) (ruled c.params p) source packets count events may sound in
     let is_run : received d rules source packets events ≡ r =
     same_run d rules source packets events ∙ ap (receiver_run d rules) (sym same) in
@@ -233,7 +242,7 @@ in_time coded ruled law c h source packets count events x p may sound same sent 
 
 taken_if : (b1 : Bool) (first : ℕ) (bytes : List ℕ) (a : Arrival) (past : List timed.Entry)
     → timed.entries_of first (cond b1 past (timed.Came bytes a ∷ past))
-    ≡ cond b1 (timed.entries_of first past) (cond (ltb a.picture (timed.next_after first past))
+    ≡ cond b1 (timed.entries_of first past) (cond (ltb a.picture (timed.next_number_after first past))
     (timed.entries_of first past) (Packet bytes ∷ timed.entries_of first past))
 taken_if true first bytes a past = refl
 taken_if false first bytes a past = refl
@@ -241,46 +250,46 @@ taken_if false first bytes a past = refl
 taken_at : (o : Option Place) (number first lead : ℕ) (bytes : List ℕ) (now : ℕ) (past : List timed.Entry)
     → IsPlacedAt number o
     → timed.entries_of first (run.with_place first lead o bytes now past)
-    ≡ cond (ltb (timed.next_after first past + lead) number) (timed.entries_of first past)
-    (cond (ltb number (timed.next_after first past)) (timed.entries_of first past)
+    ≡ cond (ltb (timed.next_number_after first past + lead) number) (timed.entries_of first past)
+    (cond (ltb number (timed.next_number_after first past)) (timed.entries_of first past)
     (Packet bytes ∷ timed.entries_of first past))
 taken_at None number first lead bytes now past e = absurd e
 taken_at (Some place) number first lead bytes now past e =
-    taken_if (ltb (timed.next_after first past + lead) place.number) first bytes
+    taken_if (ltb (timed.next_number_after first past + lead) place.number) first bytes
     (record { picture = place.number; captured = place.captured; at = now }) past
-    ∙ ap (λ (n : ℕ). cond (ltb (timed.next_after first past + lead) n) (timed.entries_of first past)
-    (cond (ltb n (timed.next_after first past)) (timed.entries_of first past)
+    ∙ ap (λ (n : ℕ). cond (ltb (timed.next_number_after first past + lead) n) (timed.entries_of first past)
+    (cond (ltb n (timed.next_number_after first past)) (timed.entries_of first past)
     (Packet bytes ∷ timed.entries_of first past))) e
 
 given_if : (b1 b2 : Bool) (d : Decoding Style Mb Picture Fault) (rules : Rules) (source : Source Style Mb Picture)
     (packets : Packets Style Mb Picture) (number place : ℕ) (bytes : List ℕ) (e : List ReceiverEntry)
     (events : List Event)
-    → e ≡ given d rules source packets events
+    → e ≡ given_entries d rules source packets events
     → slice_get (packets (call_from d.pictures rules source events).coded number) place ≡ Some bytes
     → cond b1 e (cond b2 e (Packet bytes ∷ e))
-    ≡ given d rules source packets (cond b1 events (cond b2 events (Deliver number place ∷ events)))
+    ≡ given_entries d rules source packets (cond b1 events (cond b2 events (Deliver number place ∷ events)))
 given_if true b2 d rules source packets number place bytes e events same sent = same
 given_if false true d rules source packets number place bytes e events same sent = same
 given_if false false d rules source packets number place bytes e events same sent =
     ap (λ (l : List ReceiverEntry). Packet bytes ∷ l) same
-    ∙ sym (ap (λ (o : Option (List ℕ)). option_map_or (λ b. Packet b ∷ given d rules source packets events) o
-    (given d rules source packets events)) sent)
+    ∙ sym (ap (λ (o : Option (List ℕ)). option_map_or (λ b. Packet b ∷ given_entries d rules source packets events) o
+    (given_entries d rules source packets events)) sent)
 
 same_given : (c : Config) (first : ℕ) (source : Source Style Mb Picture) (packets : Packets Style Mb Picture)
-    (begun : List Event) (steps : List Step)
-    → given (decoding c.params.format) (rules_of c.params) source packets begun ≡ plays_alone first
+    (begun : List Event) (steps : List CallStep)
+    → given_entries (decoding c.params.format) (rules_of c.params) source packets begun ≡ plays_alone first
     → AreOfSender c first source packets begun steps
-    → timed.entries_of first (run.timed_of c.rate first c.lead (entries_of steps))
-    ≡ given (decoding c.params.format) (rules_of c.params) source packets (events_of c first begun steps)
+    → timed.entries_of first (run.timed_of c.rate first c.lead (run_entries steps))
+    ≡ given_entries (decoding c.params.format) (rules_of c.params) source packets (call_events c first begun steps)
 same_given c first source packets begun [] b a = sym b
 same_given c first source packets begun (Sends ∷ past) b a = same_given c first source packets begun past b a
 same_given c first source packets begun (Brings message ∷ past) b a = same_given c first source packets begun past b a
 same_given c first source packets begun (Takes number place packet bytes now ∷ past) b a =
-    let t = run.timed_of c.rate first c.lead (entries_of past) in
-    taken_at (place_of c.rate (run.heard_of (entries_of past)) packet now) number first c.lead bytes now t a.1
-    ∙ given_if (ltb (timed.next_after first t + c.lead) number) (ltb number (timed.next_after first t))
+    let t = run.timed_of c.rate first c.lead (run_entries past) in
+    taken_at (place_of c.rate (run.heard_of (run_entries past)) packet now) number first c.lead bytes now t a.1
+    ∙ given_if (ltb (timed.next_number_after first t + c.lead) number) (ltb number (timed.next_number_after first t))
     (decoding c.params.format) (rules_of c.params) source packets number place bytes (timed.entries_of first t)
-    (events_of c first begun past) (same_given c first source packets begun past b a.2) a.0
+    (call_events c first begun past) (same_given c first source packets begun past b a.2) a.0
 same_given c first source packets begun (Plays now ∷ past) b a =
     ap (λ (l : List ReceiverEntry). PlayNext ∷ l) (same_given c first source packets begun past b a)
 
@@ -288,22 +297,22 @@ pub of_one_sender : ((p : Params) → IsDecoding (decoding p.format) (rules_of p
     → ((p : Params) → IsParams p → IsRules (rules_of p))
     → ((d : Decoding Style Mb Picture Fault) (r : Rules) → IsDecoding d r → IsRules r → AnySoundSender d r)
     → (c : Config) (h : History) (source : Source Style Mb Picture) (packets : Packets Style Mb Picture) (count : ℕ)
-    (begun : List Event) (steps : List Step) (x : Coded Style Mb Picture)
+    (begun : List Event) (steps : List CallStep) (x : Coded Style Mb Picture)
     → IsParams c.params
-    → h.past ≡ entries_of steps
-    → given (decoding c.params.format) (rules_of c.params) source packets begun ≡ plays_alone h.first
+    → h.past ≡ run_entries steps
+    → given_entries (decoding c.params.format) (rules_of c.params) source packets begun ≡ plays_alone h.first
     → AreOfSender c h.first source packets begun steps
     → AllMayHappenFrom (decoding c.params.format).pictures (rules_of c.params) source count
-    (events_of c h.first begun steps)
-    → AllSound (decoding c.params.format) (rules_of c.params) source packets (events_of c h.first begun steps)
+    (call_events c h.first begun steps)
+    → AllSound (decoding c.params.format) (rules_of c.params) source packets (call_events c h.first begun steps)
     → slice_get (call_from (decoding c.params.format).pictures (rules_of c.params) source
-    (events_of c h.first begun steps)).coded (next_in c h) ≡ Some x
+    (call_events c h.first begun steps)).coded (next_number_in c h) ≡ Some x
     → is_full (call_from (decoding c.params.format).pictures (rules_of c.params) source
-    (events_of c h.first begun steps)).coded
+    (call_events c h.first begun steps)).coded
     (call_from (decoding c.params.format).pictures (rules_of c.params) source
-    (events_of c h.first begun steps)).arrivals (next_in c h) ≡ true
+    (call_events c h.first begun steps)).arrivals (next_number_in c h) ≡ true
     → ((play_in c h).mark ≡ Exact) × ((play_in c h).picture ≡ x.picture)
 of_one_sender coded ruled law c h source packets count begun steps x p past b a may sound sent full =
-    in_time coded ruled law c h source packets count (events_of c h.first begun steps) x p may sound
-    (ap (λ (l : List run.Entry). timed.entries_of h.first (run.timed_of c.rate h.first c.lead l)) past
+    in_time coded ruled law c h source packets count (call_events c h.first begun steps) x p may sound
+    (ap (λ (l : List run.StreamEntry). timed.entries_of h.first (run.timed_of c.rate h.first c.lead l)) past
     ∙ same_given c h.first source packets begun steps b a) sent full

@@ -11,8 +11,8 @@ use Rattle.session_intake.specs.Datagrams.{seen_in}
 use Rattle.session_intake.specs.declared.seen.Seen.{Seen}
 use Rattle.session_intake.specs.declared.seen.Cause.{Cause}
 use Rattle.session_runs.specs.Histories.{Config}
-use Rattle.call_session.specs.Sessions.{Anew, Asked, Datagram, DatagramOf, Ended, Entry, State, Turn, after_grant, after_reading, asked_for, at, is_looked_at, outcome_of_grant, outcome_of_reading, seen_of_one, session_run, taker_in}
-use Rattle.session_laws.specs.Bounded.{taken, taken_if}
+use Rattle.call_session.specs.Sessions.{Anew, Asked, Datagram, DatagramOf, Ended, SessionEntry, SessionState, Turn, after_grant, after_reading, asked_for, at, is_looked_at, outcome_of_grant, outcome_of_reading, seen_of_one, session_run, taker_in}
+use Rattle.session_laws.specs.Bounded.{times_taken, taken_if}
 
 abbrev in_second : ℕ → ℕ → Bool
 in_second second time = eqb (time / 1000000000) second
@@ -21,7 +21,7 @@ abbrev few : (ℕ → Bool) → List ℕ → ℕ
 few p asked = count_by p (granted 12000 asked)
 
 -- those that were granted of all three budgets
-abbrev all_few : (ℕ → Bool) → budgets.Asked → ℕ
+abbrev all_few : (ℕ → Bool) → budgets.LookTimes → ℕ
 all_few p a = few p a.followed + few p a.former + few p a.others
 
 one_more : (p : ℕ → Bool) (n : ℕ) (ns : List ℕ) → count_by p (n ∷ ns) ≡ cond (p n) 1 0 + count_by p ns
@@ -43,7 +43,8 @@ grown p n ts ns k h =
     both : (t u m x n k : ℕ) → u ≡ x + t → m ≡ x + n → t ≤ n + k → u ≤ m + k
     both t u m x n k d e h = omega arith
 
-by_grant : (g : Bool) (t : Taker) (p : ℕ → Bool) (c : Config) (seen : Seen) (own : List ℕ) (st : State) (ts ns : List ℕ)
+by_grant : (g : Bool) (t : Taker) (p : ℕ → Bool) (c : Config) (seen : Seen) (own : List ℕ) (st : SessionState)
+    (ts ns : List ℕ)
     (k : ℕ)
     → count_by p ts ≤ count_by p ns + k
     → count_by p (taken_if (outcome_of_grant c seen t own g st) st.now ++ ts)
@@ -55,13 +56,13 @@ by_grant true takers.Tried p c seen own st ts ns k h = (grown p st.now ts ns k h
 by_grant true takers.Begins p c seen own st ts ns k h = (grown p st.now ts ns k h).1
 by_grant true takers.NoRun p c seen own st ts ns k h = (grown p st.now ts ns k h).0
 
-abbrev Bound : (ℕ → Bool) → List ℕ → budgets.Asked → Type 0
+abbrev Bound : (ℕ → Bool) → List ℕ → budgets.LookTimes → Type 0
 Bound p ts a = count_by p ts ≤ all_few p a
 
 same_bound : (a b c d e : ℕ) → a ≤ b + c → b + c ≡ d → a ≤ d
 same_bound a b c d e h f = omega arith
 
-by_taker : (t : Taker) (p : ℕ → Bool) (c : Config) (seen : Seen) (own : List ℕ) (st : State) (ts : List ℕ)
+by_taker : (t : Taker) (p : ℕ → Bool) (c : Config) (seen : Seen) (own : List ℕ) (st : SessionState) (ts : List ℕ)
     → Bound p ts st.asked
     → Bound p (taken_if (outcome_of_grant c seen t own (is_looked_at t st) st) st.now ++ ts)
     (asked_for t st).asked
@@ -87,12 +88,12 @@ by_taker takers.NoRun p c seen own st ts h =
     (few p st.asked.followed + few p st.asked.former) (omega (arith, h)) in
     omega (arith, f)
 
-granted_asked : (g : Bool) (c : Config) (seen : Seen) (t : Taker) (own : List ℕ) (st : State)
+granted_asked : (g : Bool) (c : Config) (seen : Seen) (t : Taker) (own : List ℕ) (st : SessionState)
     → (after_grant c seen t own g st).asked ≡ st.asked
 granted_asked false c seen t own st = refl
 granted_asked true c seen t own st = refl
 
-by_reading : (r : Result Seen Cause) (p : ℕ → Bool) (c : Config) (own : List ℕ) (st : State) (ts : List ℕ)
+by_reading : (r : Result Seen Cause) (p : ℕ → Bool) (c : Config) (own : List ℕ) (st : SessionState) (ts : List ℕ)
     → Bound p ts st.asked
     → Bound p (taken_if (outcome_of_reading c r own st) st.now ++ ts) (after_reading c r own st).asked
 by_reading (Err cause) p c own st ts h = h
@@ -106,21 +107,21 @@ by_reading (Ok seen) p c own st ts h =
     fits : (a b c : ℕ) → a ≤ c → b ≡ c → a ≤ b
     fits a b c h e = omega arith
 
-bound : (p : ℕ → Bool) (c : Config) (past : List Entry) → Bound p (taken c past) (session_run c past).asked
+bound : (p : ℕ → Bool) (c : Config) (past : List SessionEntry) → Bound p (times_taken c past) (session_run c past).asked
 bound p c [] = omega arith
 bound p c (Datagram bytes now ∷ past) =
-    by_reading (seen_in c.params bytes) p c (renamed bytes) (at now (session_run c past)) (taken c past)
+    by_reading (seen_in c.params bytes) p c (renamed bytes) (at now (session_run c past)) (times_taken c past)
     (bound p c past)
 bound p c (DatagramOf only bytes now ∷ past) =
-    by_reading (seen_of_one c only bytes) p c (renamed bytes) (at now (session_run c past)) (taken c past)
+    by_reading (seen_of_one c only bytes) p c (renamed bytes) (at now (session_run c past)) (times_taken c past)
     (bound p c past)
 bound p c (Turn now ∷ past) = bound p c past
 bound p c (Asked round_trip now ∷ past) = bound p c past
 bound p c (Ended source now ∷ past) = bound p c past
 bound p c (Anew now ∷ past) = bound p c past
 
-pub few_taken : NeverMore → (c : Config) (past : List Entry) (second : ℕ)
-    → count_by (λ time. eqb (time / 1000000000) second) (taken c past) ≤ 36000
+pub few_taken : NeverMore → (c : Config) (past : List SessionEntry) (second : ℕ)
+    → count_by (λ time. eqb (time / 1000000000) second) (times_taken c past) ≤ 36000
 few_taken law c past second =
     let a = (session_run c past).asked in
     let b = bound (in_second second) c past in

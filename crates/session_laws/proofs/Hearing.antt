@@ -8,10 +8,10 @@ use Rattle.stream_choice.specs.declared.streams.Run.{Run}
 use Rattle.stream_numbers.specs.declared.packet.Packet.{Packet}
 use Rattle.session_runs.specs.declared.unheard.Unheard.{Unheard}
 use Rattle.session_runs.specs.Unheard.{after_heard, is_lost}
-use Rattle.session_runs.specs.Histories.{Ahead, Config, History, IsHeard, answer_in, begun, is_heard, must_begin, next_in, ready}
+use Rattle.session_runs.specs.Histories.{Ahead, Config, History, IsHeard, answer_in, history_begun, is_heard, must_begin, next_number_in, ready}
 use Rattle.session_runs.specs.Lines.{line_of}
-use Rattle.call_session.specs.Sessions.{Entry, session_run}
-use Rattle.session_laws.specs.Recovering.{NoneBegins, NoneIsHeard, Row, after_row, first_time}
+use Rattle.call_session.specs.Sessions.{SessionEntry, session_run}
+use Rattle.session_laws.specs.Recovering.{NoneBegins, NoneIsHeard, PacketsInRow, after_row, first_time}
 use Rattle.session_laws.proofs.Reaching.{line_fine, lines_fine}
 
 -- ---- how many were not heard, and since when
@@ -21,7 +21,7 @@ record Unheards (u : Unheard) (count then : ℕ) : Type 0 where
   packets : min count 4294967295 ≤ u.packets
   since : u.since ≤ then
 
-ready_same : (b : Bool) (reference now : ℕ) (h : History) → b ≡ false → cond b (begun reference now) h ≡ h
+ready_same : (b : Bool) (reference now : ℕ) (h : History) → b ≡ false → cond b (history_begun reference now) h ≡ h
 ready_same true reference now h e = absurd cc
 ready_same false reference now h e = refl
 
@@ -37,7 +37,7 @@ unheard_as : (a b : Bool) (now : ℕ) (u v : Unheard) → a ≡ b → u ≡ v �
 unheard_as a b now u v e f = ap (λ (x : Bool). after_heard x now u) e ∙ ap (after_heard b now) f
 
 -- with one more that is neither heard nor begins it anew
-one_more : (c : Config) (h : History) (p : Packet × List ℕ × ℕ) (ps : Row) → NoneIsHeard c h (p ∷ ps)
+one_more : (c : Config) (h : History) (p : Packet × List ℕ × ℕ) (ps : PacketsInRow) → NoneIsHeard c h (p ∷ ps)
     → NoneBegins c h (p ∷ ps)
     → (after_row c h (p ∷ ps)).unheard ≡ after_heard false p.2 (after_row c h ps).unheard
 one_more c h p ps n b =
@@ -66,7 +66,7 @@ next_more u now count then i x =
     none : (n k : ℕ) → 1 ≤ n → min n 4294967295 ≤ k → k ≡ 0 → ⊥
     none n k i h e = omega arith
 
-counted : (c : Config) (h : History) (p : Packet × List ℕ × ℕ) (ps : Row) → h.unheard.since ≤ first_time p.2 ps
+counted : (c : Config) (h : History) (p : Packet × List ℕ × ℕ) (ps : PacketsInRow) → h.unheard.since ≤ first_time p.2 ps
     → NoneIsHeard c h (p ∷ ps) → NoneBegins c h (p ∷ ps)
     → Unheards (after_row c h (p ∷ ps)).unheard (length (p ∷ ps)) (first_time p.2 ps)
 counted c h p [] i n b =
@@ -94,7 +94,7 @@ must_not : (b : Bool) (now : ℕ) (u : Unheard) → cond b true (is_lost now u) 
 must_not true now u e = absurd cc
 must_not false now u e = e
 
-soon : (c : Config) (h : History) (p : Packet × List ℕ × ℕ) (ps : Row) → h.unheard.since ≤ first_time p.2 ps
+soon : (c : Config) (h : History) (p : Packet × List ℕ × ℕ) (ps : PacketsInRow) → h.unheard.since ≤ first_time p.2 ps
     → NoneIsHeard c h (p ∷ ps) → NoneBegins c h (p ∷ ps) → 30 ≤ length ps → p.2 < first_time p.2 ps + 1000000000
 soon c h p [] i n b l = omega arith
 soon c h p (q ∷ qs) i n b l =
@@ -104,7 +104,7 @@ soon c h p (q ∷ qs) i n b l =
     let since = k.since in
     let many : 30 ≤ u.packets = enough (length (q ∷ qs)) u.packets l packets in
     let short = lost_if (ltb 30000000000 (p.2 - u.last)) p.2 u many
-    (must_not (leb 1048576 (next_in c (after_row c h (q ∷ qs)))) p.2 u b.0) in
+    (must_not (leb 1048576 (next_number_in c (after_row c h (q ∷ qs)))) p.2 u b.0) in
     below p.2 u.since (first_time q.2 qs) short since
   where
     enough : (n k : ℕ) → 30 ≤ n → min n 4294967295 ≤ k → 30 ≤ k
@@ -122,7 +122,7 @@ answered false true n x y e f = absurd cc
 answered false false n x y e f = refl
 
 pub begins : (c : Config) (packet : Packet) (bytes : List ℕ) (now : ℕ) → 2 ≤ c.lead
-    → answer_in c packet bytes now (begun packet.reference now)
+    → answer_in c packet bytes now (history_begun packet.reference now)
     ≡ IsHeard (answer_after c.params (plays_alone (packet.reference - 2)) bytes)
 begins c packet bytes now i =
     answered (ltb (packet.reference - 2 + c.lead) packet.reference) (ltb packet.reference (packet.reference - 2))
@@ -130,7 +130,7 @@ begins c packet bytes now i =
     (le-ltb (packet.reference - 2 + c.lead) packet.reference (omega arith))
     (le-ltb packet.reference (packet.reference - 2) (omega arith))
 
-pub heard_again : (c : Config) (past : List Entry) (run : Run) (p : Packet × List ℕ × ℕ) (ps : Row)
+pub heard_again : (c : Config) (past : List SessionEntry) (run : Run) (p : Packet × List ℕ × ℕ) (ps : PacketsInRow)
     → (session_run c past).now ≤ first_time p.2 ps
     → NoneIsHeard c (line_of run (session_run c past).follows.lines) (p ∷ ps)
     → NoneBegins c (line_of run (session_run c past).follows.lines) (p ∷ ps)

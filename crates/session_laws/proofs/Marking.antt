@@ -9,8 +9,8 @@ use Rattle.stream_choice.specs.declared.streams.Streams.{Streams}
 use Rattle.stream_choice.specs.declared.streams.Run.{Run}
 use Rattle.stream_choice.specs.declared.streams.Taker.{Taker}
 use Rattle.stream_choice.specs.declared.streams.Taker.TheVariants as takers
-use Rattle.stream_choice.specs.Choice.{after_complete, counted, is_live_one, is_of, is_over, is_tried, kept, overtakes, touched, tried_after, with_former, with_tried}
-use Rattle.session_runs.specs.Lines.{run_of}
+use Rattle.stream_choice.specs.Choice.{after_complete, stream_counted, is_live_one, is_of, is_over, is_tried, kept, overtakes, touched, tried_after, with_former, with_tried}
+use Rattle.session_runs.specs.Lines.{taker_run}
 
 -- each stream and each trial is so
 pub record Each (P : Stream → Type 0) (Q : Trial → Type 0) (st : Streams) : Type 0 where
@@ -20,7 +20,7 @@ pub record Each (P : Stream → Type 0) (Q : Trial → Type 0) (st : Streams) : 
 
 -- a packet of this stream keeps it so
 pub record Keeps (P : Stream → Type 0) (Q : Trial → Type 0) (source now : ℕ) : Type 0 where
-  pub counts : (f : Stream) → f.source ≡ source → P f → P (counted now f)
+  pub counts : (f : Stream) → f.source ≡ source → P f → P (stream_counted now f)
   pub first : (s : ℕ) → s ≡ source → P (let f : Stream = record { source = s; pictures = 1; last = now } in f)
   pub begins : Q (let t : Trial = record { source = source; began = now; last = now } in t)
   pub touches : (t : Trial) → Q t → Q (let u : Trial = record { source = t.source; began = t.began; last = now } in u)
@@ -59,7 +59,7 @@ kept_one P (Some g) (Some f) h i = kept_if P (ltb g.pictures f.pictures) f g i h
 
 module _ {P : Stream → Type 0} {Q : Trial → Type 0} where
   counted_one : (source now : ℕ) (o : Option Stream) → Keeps P Q source now → is_of o source ≡ true
-      → MatchOption o (Unit {0}) P → MatchOption (option_map (counted now) o) (Unit {0}) P
+      → MatchOption o (Unit {0}) P → MatchOption (option_map (stream_counted now) o) (Unit {0}) P
   counted_one source now None k e h = tt
   counted_one source now (Some f) k e h = k.counts f (eqb-true f.source source e) h
 
@@ -73,7 +73,7 @@ module _ {P : Stream → Type 0} {Q : Trial → Type 0} where
       → Each P Q st → MatchOption o (Unit {0}) P → Each P Q (with_former st o now)
   former_each source now st None k e x h = x
   former_each source now st (Some g) k e x h =
-      former_if (overtakes st.followed (counted now g) now) st (counted now g) x
+      former_if (overtakes st.followed (stream_counted now g) now) st (stream_counted now g) x
       (k.counts g (eqb-true g.source source e) h)
 
   tried_if : (b : Bool) (now s : ℕ) (st : Streams) → Each P Q st
@@ -127,7 +127,7 @@ module _ {P : Stream → Type 0} {Q : Trial → Type 0} where
   pub by_taker : (t : Taker) (b : Bool) (source now : ℕ) (st : Streams)
       → Keeps P Q source now
       → Shows (is_of st.followed source) (is_of st.former source) (is_tried st.tried source now) t → Each P Q st
-      → Each P Q (complete_if b (run_of t) now (noted_by t source now st))
+      → Each P Q (complete_if b (taker_run t) now (noted_by t source now st))
   by_taker takers.Followed false source now st k e x =
       record { followed = x.followed; former = x.former; tried = x.tried }
   by_taker takers.Followed true source now st k e x =

@@ -14,11 +14,11 @@ use Rattle.stream_choice.specs.Choice as choice
 use Rattle.session_intake.specs.declared.seen.Seen.{Seen}
 use Rattle.session_intake.specs.declared.seen.Cause.{Cause}
 use Rattle.session_intake.specs.declared.seen.Cause.TheVariants as causes
-use Rattle.session_runs.specs.Histories.{Config, History, after_packet, answer_in, is_complete}
-use Rattle.session_runs.specs.Lines.{Lines, line_of, made_ready, turned, with_line}
+use Rattle.session_runs.specs.Histories.{Config, History, history_after_packet, answer_in, answer_completes}
+use Rattle.session_runs.specs.Lines.{Lines, line_of, made_ready, turned, lines_with}
 use Rattle.session_runs.specs.Following.{Follows, completed_if}
-use Rattle.call_session.specs.Sessions.{State, after_grant, after_reading, after_seen, asked_for, dropped, is_looked_at, taker_in}
-use Rattle.session_laws.specs.Undisturbed.{Followed, IsBeside, followed_in, is_behind, is_from, is_from_other}
+use Rattle.call_session.specs.Sessions.{SessionState, after_grant, after_reading, after_seen, asked_for, dropped, is_looked_at, taker_in}
+use Rattle.session_laws.specs.Undisturbed.{Followed, ComesBeside, followed_in, is_behind, is_from, is_from_other}
 
 -- ---- by its parts
 
@@ -66,11 +66,11 @@ tried_case st l (Some t) now h = (
         tried = None;
       }) h,
   stays (choice.is_live_one st.followed now)
-      (cond (choice.is_kept st.former st.followed) turns.ToTried turns.ToTriedBeside) l h,
+      (cond (choice.keeps_run st.former st.followed) turns.ToTried turns.ToTriedBeside) l h,
 )
 
 overtaken : (o : Option Stream) (g : Stream) (now : ℕ) → choice.is_live_one o now ≡ true → is_behind (Some g) o ≡ true
-    → choice.overtakes o (choice.counted now g) now ≡ false
+    → choice.overtakes o (choice.stream_counted now g) now ≡ false
 overtaken None g now h i = absurd cc
 overtaken (Some f) g now h i =
     ap (λ (b : Bool). cond b (ltb f.pictures (min (g.pictures + 1) 4294967295)) true) h
@@ -87,10 +87,10 @@ former_case : (st : Streams) (l : Lines) (o : Option Stream) (now : ℕ) → cho
 former_case st l None now h i = (refl, refl)
 former_case st l (Some g) now h i =
     let e = overtaken st.followed g now h i in (
-      pick_other (choice.overtakes st.followed (choice.counted now g) now)
-          (record { followed = Some (choice.counted now g); former = st.followed; tried = st.tried })
-          (record { followed = st.followed; former = Some (choice.counted now g); tried = st.tried }) e,
-      stays_other (choice.overtakes st.followed (choice.counted now g) now) turns.ToFormer l e,
+      pick_other (choice.overtakes st.followed (choice.stream_counted now g) now)
+          (record { followed = Some (choice.stream_counted now g); former = st.followed; tried = st.tried })
+          (record { followed = st.followed; former = Some (choice.stream_counted now g); tried = st.tried }) e,
+      stays_other (choice.overtakes st.followed (choice.stream_counted now g) now) turns.ToFormer l e,
     )
 
 completed_tried : (k : Bool) (f : Follows) (now : ℕ) → choice.is_live_one f.streams.followed now ≡ true
@@ -109,20 +109,20 @@ completed_former true f now h i = former_case f.streams f.lines f.streams.former
 -- ---- with a packet of another stream
 
 -- the lines and the streams where a packet of it is heard
-abbrev lines_for : Config → Seen → Taker → State → Lines
+abbrev lines_for : Config → Seen → Taker → SessionState → Lines
 lines_for c seen taker st = made_ready c taker seen.packet.reference st.now st.follows.lines
 
-abbrev heard : Config → Seen → List ℕ → Run → Lines → State → Follows
+abbrev heard : Config → Seen → List ℕ → Run → Lines → SessionState → Follows
 heard c seen own run l st =
     record {
-      streams = choice.after_packet st.follows.streams seen.source st.now;
-      lines = with_line run (after_packet c seen.packet own st.now (line_of run l)) l;
+      streams = choice.streams_after_packet st.follows.streams seen.source st.now;
+      lines = lines_with run (history_after_packet c seen.packet own st.now (line_of run l)) l;
     }
 
-abbrev completes : Config → Seen → List ℕ → Run → Lines → State → Bool
-completes c seen own run l st = is_complete (answer_in c seen.packet own st.now (line_of run l))
+abbrev completes : Config → Seen → List ℕ → Run → Lines → SessionState → Bool
+completes c seen own run l st = answer_completes (answer_in c seen.packet own st.now (line_of run l))
 
-former_granted : (g : Bool) (c : Config) (seen : Seen) (own : List ℕ) (st : State)
+former_granted : (g : Bool) (c : Config) (seen : Seen) (own : List ℕ) (st : SessionState)
     → choice.is_live_one st.follows.streams.followed st.now ≡ true
     → is_behind st.follows.streams.former st.follows.streams.followed ≡ true
     → followed_in (after_grant c seen takers.Former own g (asked_for takers.Former st)) ≡ followed_in st
@@ -133,7 +133,7 @@ former_granted true c seen own st h i =
     same_parts (followed_in (after_grant c seen takers.Former own true (asked_for takers.Former st))) (followed_in st)
     k.0 k.1 refl refl refl refl
 
-tried_granted : (g : Bool) (c : Config) (seen : Seen) (own : List ℕ) (st : State)
+tried_granted : (g : Bool) (c : Config) (seen : Seen) (own : List ℕ) (st : SessionState)
     → choice.is_live_one st.follows.streams.followed st.now ≡ true
     → followed_in (after_grant c seen takers.Tried own g (asked_for takers.Tried st)) ≡ followed_in st
 tried_granted false c seen own st h = refl
@@ -143,7 +143,7 @@ tried_granted true c seen own st h =
     same_parts (followed_in (after_grant c seen takers.Tried own true (asked_for takers.Tried st))) (followed_in st)
     k.0 k.1 refl refl refl refl
 
-begins_granted : (g : Bool) (c : Config) (seen : Seen) (own : List ℕ) (st : State)
+begins_granted : (g : Bool) (c : Config) (seen : Seen) (own : List ℕ) (st : SessionState)
     → choice.is_live_one st.follows.streams.followed st.now ≡ true
     → followed_in (after_grant c seen takers.Begins own g (asked_for takers.Begins st)) ≡ followed_in st
 begins_granted false c seen own st h = refl
@@ -153,12 +153,12 @@ begins_granted true c seen own st h =
     same_parts (followed_in (after_grant c seen takers.Begins own true (asked_for takers.Begins st))) (followed_in st)
     k.0 k.1 refl refl refl refl
 
-none_granted : (g : Bool) (c : Config) (seen : Seen) (own : List ℕ) (st : State)
+none_granted : (g : Bool) (c : Config) (seen : Seen) (own : List ℕ) (st : SessionState)
     → followed_in (after_grant c seen takers.NoRun own g (asked_for takers.NoRun st)) ≡ followed_in st
 none_granted false c seen own st = refl
 none_granted true c seen own st = refl
 
-by_taker : (t : Taker) (c : Config) (seen : Seen) (own : List ℕ) (st : State) → (t ≡ takers.Followed → ⊥)
+by_taker : (t : Taker) (c : Config) (seen : Seen) (own : List ℕ) (st : SessionState) → (t ≡ takers.Followed → ⊥)
     → (t ≡ takers.Former → is_behind st.follows.streams.former st.follows.streams.followed ≡ true)
     → choice.is_live_one st.follows.streams.followed st.now ≡ true
     → followed_in (after_seen c seen t own st) ≡ followed_in st
@@ -200,16 +200,17 @@ one_source None source other h i = refl
 one_source (Some f) source other h i =
     ne_eqb f.source other (λ e. true≢false (sym (eq-eqb other source (sym e ∙ eqb-true f.source source h)) ∙ i))
 
-drops : (cause : Cause) (st : State) → followed_in (dropped cause st) ≡ followed_in st
+drops : (cause : Cause) (st : SessionState) → followed_in (dropped cause st) ≡ followed_in st
 drops causes.Long st = refl
 drops causes.Malformed st = refl
 drops causes.OtherPictures st = refl
 drops causes.TooFast st = refl
 drops causes.OtherStream st = refl
 
-pub by_others : (r : Result Seen Cause) (c : Config) (source : ℕ) (own : List ℕ) (st : State) → is_from source r ≡ false
+pub by_others : (r : Result Seen Cause) (c : Config) (source : ℕ) (own : List ℕ) (st : SessionState)
+    → is_from source r ≡ false
     → choice.is_of st.follows.streams.followed source ≡ true
-    → (is_from_other source r ≡ true → IsBeside r st.now st.follows.streams.followed st.follows.streams.former)
+    → (is_from_other source r ≡ true → ComesBeside r st.now st.follows.streams.followed st.follows.streams.former)
     → followed_in (after_reading c r own st) ≡ followed_in st
 by_others (Err cause) c source own st n h i = drops cause st
 by_others (Ok seen) c source own st n h i =

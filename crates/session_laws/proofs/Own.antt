@@ -5,7 +5,7 @@ use Rattle.std.specs.Option.{option_map}
 use Rattle.std.proofs.lemmas.Bool.{eq-eqb, eqb-true, true≢false}
 use Rattle.h263_types.specs.declared.Mark.{Mark}
 use Rattle.h263_types.specs.declared.Mark.TheVariants as marks
-use Rattle.receiver_end.specs.Answers.{mark_of}
+use Rattle.receiver_end.specs.Answers.{mark_from}
 use Rattle.receiver_end.specs.State.{mark_after}
 use Rattle.stream_choice.specs.declared.stream.Stream.{Stream}
 use Rattle.stream_choice.specs.declared.streams.Run.TheVariants as runs
@@ -18,9 +18,9 @@ use Rattle.session_intake.specs.Counts as counting
 use Rattle.session_intake.specs.declared.seen.Seen.{Seen}
 use Rattle.session_intake.specs.declared.seen.Cause.{Cause}
 use Rattle.session_intake.specs.declared.seen.Cause.TheVariants as causes
-use Rattle.session_runs.specs.Histories.{Config, History, after_nack, after_packet, after_play, answer_in, entries_in, is_complete, is_due_in, moment_in, nack_at, ready}
+use Rattle.session_runs.specs.Histories.{Config, History, after_nack, history_after_packet, history_after_play, answer_in, history_entries, answer_completes, is_due_in, moment_in, nack_at, ready}
 use Rattle.session_runs.specs.Following.{Follows, completed_if, is_run_due}
-use Rattle.call_session.specs.Sessions.{Dropped, Outcome, State, Taken, after_ended, after_grant, after_missing, after_played, after_reading, after_seen, asked_for, is_looked_at, missing_at, outcome_of_grant, outcome_of_reading, outcome_of_seen, played_run, taker_in}
+use Rattle.call_session.specs.Sessions.{Dropped, Outcome, SessionState, Taken, after_ended, after_grant, after_missing, after_played, after_reading, after_seen, asked_for, is_looked_at, missing_at, outcome_of_grant, outcome_of_reading, outcome_of_seen, played_run, taker_in}
 use Rattle.session_laws.specs.Undisturbed.{Followed, OfNack, OfPlay, Said, followed_in, is_from, play_in, said_of_play}
 use Rattle.session_laws.proofs.Others.{same_parts}
 
@@ -40,7 +40,7 @@ with_asked now v =
 abbrev heard : Bool → ℕ → History → Followed → Followed
 heard k now line v =
     record {
-      stream = cond k (option_map (choice.counted now) v.stream) v.stream;
+      stream = cond k (option_map (choice.stream_counted now) v.stream) v.stream;
       line = line;
       asked = v.asked;
       exact = v.exact;
@@ -50,10 +50,10 @@ heard k now line v =
 
 abbrev completes : Config → Seen → List ℕ → ℕ → History → Bool
 completes c seen own now line =
-    is_complete (answer_in c seen.packet own now (ready c seen.packet.reference now line))
+    answer_completes (answer_in c seen.packet own now (ready c seen.packet.reference now line))
 
 abbrev line_after : Config → Seen → List ℕ → ℕ → History → History
-line_after c seen own now line = after_packet c seen.packet own now (ready c seen.packet.reference now line)
+line_after c seen own now line = history_after_packet c seen.packet own now (ready c seen.packet.reference now line)
 
 abbrev granted : Bool → Config → Seen → List ℕ → ℕ → Followed → Followed
 granted false c seen own now v = v
@@ -66,18 +66,18 @@ after (Ok seen) c own now v = granted (is_granted 12000 now v.asked) c seen own 
 
 completed : (k : Bool) (f : Follows) (now : ℕ)
     → ((completed_if k runs.Followed now f).streams.followed
-    ≡ cond k (option_map (choice.counted now) f.streams.followed) f.streams.followed)
+    ≡ cond k (option_map (choice.stream_counted now) f.streams.followed) f.streams.followed)
     × ((completed_if k runs.Followed now f).lines.followed ≡ f.lines.followed)
 completed false f now = (refl, refl)
 completed true f now = (refl, refl)
 
-by_grant : (g : Bool) (c : Config) (seen : Seen) (own : List ℕ) (st : State)
+by_grant : (g : Bool) (c : Config) (seen : Seen) (own : List ℕ) (st : SessionState)
     → followed_in (after_grant c seen takers.Followed own g (asked_for takers.Followed st))
     ≡ granted g c seen own st.now (with_asked st.now (followed_in st))
 by_grant false c seen own st = refl
 by_grant true c seen own st =
     let k = completed (completes c seen own st.now st.follows.lines.followed) (record {
-      streams = choice.after_packet st.follows.streams seen.source st.now;
+      streams = choice.streams_after_packet st.follows.streams seen.source st.now;
       lines = record {
         followed = line_after c seen own st.now st.follows.lines.followed;
         former = st.follows.lines.former;
@@ -89,7 +89,7 @@ by_grant true c seen own st =
     k.0 k.1 refl refl refl refl
 
 -- its own run takes them
-taken : (seen : Seen) (source : ℕ) (st : State) → eqb seen.source source ≡ true
+taken : (seen : Seen) (source : ℕ) (st : SessionState) → eqb seen.source source ≡ true
     → choice.is_of st.follows.streams.followed source ≡ true → taker_in seen st ≡ takers.Followed
 taken seen source st e h =
     ap (λ (b : Bool). cond b takers.Followed
@@ -99,7 +99,8 @@ taken seen source st e h =
     (cond (choice.may_begin st.follows.streams.tried seen.source st.now) takers.Begins takers.NoRun)))))
     (ap (λ (n : ℕ). choice.is_of st.follows.streams.followed n) (eqb-true seen.source source e) ∙ h)
 
-pub by_own : (r : Result Seen Cause) (c : Config) (source : ℕ) (own : List ℕ) (st : State) → is_from source r ≡ true
+pub by_own : (r : Result Seen Cause) (c : Config) (source : ℕ) (own : List ℕ) (st : SessionState)
+    → is_from source r ≡ true
     → choice.is_of st.follows.streams.followed source ≡ true
     → followed_in (after_reading c r own st) ≡ after r c own st.now (followed_in st)
 by_own (Err cause) c source own st e h = absurd cc
@@ -109,7 +110,7 @@ by_own (Ok seen) c source own st e h =
 
 -- its SSRC stays
 counted_of : (k : Bool) (o : Option Stream) (now source : ℕ)
-    → choice.is_of (cond k (option_map (choice.counted now) o) o) source ≡ choice.is_of o source
+    → choice.is_of (cond k (option_map (choice.stream_counted now) o) o) source ≡ choice.is_of o source
 counted_of false o now source = refl
 counted_of true None now source = refl
 counted_of true (Some f) now source = refl
@@ -135,12 +136,12 @@ abbrev pub outcome : Result Seen Cause → Config → List ℕ → ℕ → Follo
 outcome (Err cause) c own now v = Dropped cause
 outcome (Ok seen) c own now v = outcome_granted (is_granted 12000 now v.asked) c seen own now v
 
-outcome_by : (g : Bool) (c : Config) (seen : Seen) (own : List ℕ) (st : State)
+outcome_by : (g : Bool) (c : Config) (seen : Seen) (own : List ℕ) (st : SessionState)
     → outcome_of_grant c seen takers.Followed own g st ≡ outcome_granted g c seen own st.now (followed_in st)
 outcome_by false c seen own st = refl
 outcome_by true c seen own st = refl
 
-pub outcome_own : (r : Result Seen Cause) (c : Config) (source : ℕ) (own : List ℕ) (st : State)
+pub outcome_own : (r : Result Seen Cause) (c : Config) (source : ℕ) (own : List ℕ) (st : SessionState)
     → is_from source r ≡ true
     → choice.is_of st.follows.streams.followed source ≡ true
     → outcome_of_reading c r own st ≡ outcome r c own st.now (followed_in st)
@@ -190,13 +191,13 @@ with_line line v =
 abbrev shown : Bool → Config → ℕ → Followed → Followed
 shown false c now v = v
 shown true c now v =
-    marked (mark_of (mark_after c.params (entries_in c v.line))) (with_line (after_play c now v.line) v)
+    marked (mark_from (mark_after c.params (history_entries c v.line))) (with_line (history_after_play c now v.line) v)
 
 -- by what there is of it alone
 abbrev pub after_turn : Config → ℕ → Followed → Followed
 after_turn c now v = shown (due c now v) c now v
 
-counts_marked : (m : Mark) (line : History) (st : State)
+counts_marked : (m : Mark) (line : History) (st : SessionState)
     → (let v : Followed = record {
       stream = st.follows.streams.followed;
       line = line;
@@ -209,22 +210,22 @@ counts_marked marks.Exact line st = refl
 counts_marked marks.Patched line st = refl
 counts_marked marks.Held line st = refl
 
-rest_kept : (b2 b3 : Bool) (c : Config) (st : State)
+rest_kept : (b2 b3 : Bool) (c : Config) (st : SessionState)
     → followed_in (after_played c (cond b2 (Some runs.Former) (cond b3 (Some runs.Tried) None)) st) ≡ followed_in st
 rest_kept true b3 c st = refl
 rest_kept false true c st = refl
 rest_kept false false c st = refl
 
-by_due : (b1 b2 b3 : Bool) (c : Config) (st : State)
+by_due : (b1 b2 b3 : Bool) (c : Config) (st : SessionState)
     → followed_in (after_played c
     (cond b1 (Some runs.Followed) (cond b2 (Some runs.Former) (cond b3 (Some runs.Tried) None))) st)
     ≡ shown b1 c st.now (followed_in st)
 by_due true b2 b3 c st =
-    counts_marked (mark_of (mark_after c.params (entries_in c st.follows.lines.followed)))
-    (after_play c st.now st.follows.lines.followed) st
+    counts_marked (mark_from (mark_after c.params (history_entries c st.follows.lines.followed)))
+    (history_after_play c st.now st.follows.lines.followed) st
 by_due false b2 b3 c st = rest_kept b2 b3 c st
 
-pub by_turn : (c : Config) (st : State)
+pub by_turn : (c : Config) (st : SessionState)
     → followed_in (after_played c (played_run c st) st) ≡ after_turn c st.now (followed_in st)
 by_turn c st =
     by_due (is_run_due c runs.Followed st.now st.follows) (is_run_due c runs.Former st.now st.follows)
@@ -238,7 +239,8 @@ marked_of marks.Held v = refl
 shown_of : (d : Bool) (c : Config) (now : ℕ) (v : Followed) → (shown d c now v).stream ≡ v.stream
 shown_of false c now v = refl
 shown_of true c now v =
-    marked_of (mark_of (mark_after c.params (entries_in c v.line))) (with_line (after_play c now v.line) v)
+    marked_of (mark_from (mark_after c.params (history_entries c v.line)))
+    (with_line (history_after_play c now v.line) v)
 
 pub of_turn : (c : Config) (now : ℕ) (v : Followed) → (after_turn c now v).stream ≡ v.stream
 of_turn c now v = shown_of (due c now v) c now v
@@ -247,7 +249,7 @@ of_turn c now v = shown_of (due c now v) c now v
 abbrev pub said : Config → ℕ → Followed → List Said
 said c now v = cond (due c now v) (OfPlay (play_in c v.line) ∷ []) []
 
-said_by : (b1 b2 b3 : Bool) (c : Config) (st : State)
+said_by : (b1 b2 b3 : Bool) (c : Config) (st : SessionState)
     → said_of_play c (cond b1 (Some runs.Followed) (cond b2 (Some runs.Former) (cond b3 (Some runs.Tried) None))) st
     ≡ cond b1 (OfPlay (play_in c st.follows.lines.followed) ∷ []) []
 said_by true b2 b3 c st = refl
@@ -255,7 +257,8 @@ said_by false true b3 c st = refl
 said_by false false true c st = refl
 said_by false false false c st = refl
 
-pub said_at_turn : (c : Config) (st : State) → said_of_play c (played_run c st) st ≡ said c st.now (followed_in st)
+pub said_at_turn : (c : Config) (st : SessionState) → said_of_play c (played_run c st) st
+    ≡ said c st.now (followed_in st)
 said_at_turn c st =
     said_by (is_run_due c runs.Followed st.now st.follows) (is_run_due c runs.Former st.now st.follows)
     (is_run_due c runs.Tried st.now st.follows) c st
@@ -273,11 +276,11 @@ asked c round_trip now v = OfNack (nack_at (moment c round_trip now v) v.line) �
 abbrev pub after_asked : Config → ℕ → ℕ → Followed → Followed
 after_asked c round_trip now v = with_line (after_nack (moment c round_trip now v) v.line) v
 
-pub by_asked : (c : Config) (round_trip : ℕ) (st : State)
+pub by_asked : (c : Config) (round_trip : ℕ) (st : SessionState)
     → followed_in (after_missing c round_trip st) ≡ after_asked c round_trip st.now (followed_in st)
 by_asked c round_trip st = refl
 
-pub said_at_asked : (c : Config) (round_trip : ℕ) (st : State)
+pub said_at_asked : (c : Config) (round_trip : ℕ) (st : SessionState)
     → OfNack (missing_at c round_trip st) ∷ [] ≡ asked c round_trip st.now (followed_in st)
 said_at_asked c round_trip st = refl
 
@@ -295,7 +298,8 @@ after_end other now v =
       held = v.held;
     }
 
-pub by_end : (other : ℕ) (st : State) → followed_in (after_ended other st) ≡ after_end other st.now (followed_in st)
+pub by_end : (other : ℕ) (st : SessionState) → followed_in (after_ended other st)
+    ≡ after_end other st.now (followed_in st)
 by_end other st = refl
 
 -- its SSRC stays

@@ -6,21 +6,21 @@ use Rattle.std.proofs.Math.Nat.{mul-le-mul_left}
 use Rattle.std.proofs.lemmas.Bool.{leb-false, leb-true, ltb-true, or_cases}
 use Rattle.stream_choice.specs.declared.streams.Run.{Run}
 use Rattle.stream_choice.specs.declared.streams.Run.TheVariants as runs
-use Rattle.stream_choice.specs.Choice.{source_in}
+use Rattle.stream_choice.specs.Choice.{run_source}
 use Rattle.stream_numbers.specs.declared.newest.Newest.{Newest}
 use Rattle.stream_numbers.specs.Placing.{IsRate}
-use Rattle.stream_numbers.specs.Streams.{Heard, newest_after}
+use Rattle.stream_numbers.specs.Streams.{HeardPacket, newest_after}
 use Rattle.stream_numbers.specs.Laws as numbers
 use Rattle.playout_times.specs.declared.arrival.Arrival.{Arrival}
 use Rattle.playout_times.specs.Due.{captured_from, due_at, due_of, has_come, is_due_by}
 use Rattle.playout_times.specs.Laws.{InTime}
 use Rattle.timed_receiver.specs.Timed.{arrivals_of}
 use Rattle.stream_run.specs.Entries.{heard_of}
-use Rattle.session_runs.specs.Histories.{Config, History, is_due_in, next_in, timed_in}
+use Rattle.session_runs.specs.Histories.{Config, History, is_due_in, next_number_in, timed_in}
 use Rattle.session_runs.specs.Lines.{line_of}
 use Rattle.session_runs.specs.Following.{Follows, is_run_due, run_due}
-use Rattle.call_session.specs.Sessions.{Anew, Asked, Datagram, DatagramOf, Ended, Entry, State, Turn, at, played_run, session_run}
-use Rattle.session_laws.specs.Bounded.{HasWaited, IsDue, Played, newest_number, played_at, plays, time_due, turns}
+use Rattle.call_session.specs.Sessions.{Anew, Asked, Datagram, DatagramOf, Ended, SessionEntry, SessionState, Turn, at, played_run, session_run}
+use Rattle.session_laws.specs.Bounded.{HasWaited, IsDue, Played, newest_number, played_at, session_plays, time_due, turns}
 use Rattle.session_laws.proofs.Newest.{Back, after_later, in_order, is_past, is_small, onto}
 use Rattle.session_laws.proofs.Reaching.{AreFine, Fine, at_fine, line_fine, lines_fine}
 
@@ -40,28 +40,28 @@ came_of picture n (a ∷ arrivals) e x =
 
 abbrev Times : Config → History → ℕ → Type 0
 Times c h now =
-    (next_in c h < 1048576) × (next_in c h ≤ newest_number c h)
-    × ((is_due_by now (time_due c h) ≡ true) ⊎ (next_in c h + c.lead < newest_number c h))
+    (next_number_in c h < 1048576) × (next_number_in c h ≤ newest_number c h)
+    × ((is_due_by now (time_due c h) ≡ true) ⊎ (next_number_in c h + c.lead < newest_number c h))
 
 known : (picture now : ℕ) (b : Bool) (time : ℕ) → is_due_by now (cond b (Some time) None) ≡ true → b ≡ true
 known picture now true time e = refl
 known picture now false time e = absurd cc
 
-in_time : (b1 b2 : Bool) (c : Config) (h : History) (now : ℕ) → Fine c now h → b1 ≡ leb 1048576 (next_in c h)
-    → b2 ≡ ltb (next_in c h) h.until
+in_time : (b1 b2 : Bool) (c : Config) (h : History) (now : ℕ) → Fine c now h → b1 ≡ leb 1048576 (next_number_in c h)
+    → b2 ≡ ltb (next_number_in c h) h.until
     → is_due_by now (cond b1 None (cond b2 (Some 0) (time_due c h))) ≡ true
     → Times c h now
 in_time true b2 c h now x e f d = absurd cc
 in_time false true c h now x e f d =
-    let i = leb-false 1048576 (next_in c h) (sym e) in
-    let j = x.until (next_in c h) (ltb-true (next_in c h) h.until (sym f)) in
+    let i = leb-false 1048576 (next_number_in c h) (sym e) in
+    let j = x.until (next_number_in c h) (ltb-true (next_number_in c h) h.until (sym f)) in
     (omega (arith, i), omega (arith, j), inr j)
 in_time false false c h now x e f d =
-    let i = leb-false 1048576 (next_in c h) (sym e) in
+    let i = leb-false 1048576 (next_number_in c h) (sym e) in
     let arrivals = arrivals_of (timed_in c h) in
-    let g = known (next_in c h) now (has_come (next_in c h) arrivals)
-    (due_at c.wait (captured_from (next_in c h) arrivals) arrivals) d in
-    (omega (arith, i), came_of (next_in c h) (newest_number c h) arrivals g x.heard, inl d)
+    let g = known (next_number_in c h) now (has_come (next_number_in c h) arrivals)
+    (due_at c.wait (captured_from (next_number_in c h) arrivals) arrivals) d in
+    (omega (arith, i), came_of (next_number_in c h) (newest_number c h) arrivals g x.heard, inl d)
 
 both : (a b : Bool) → cond a b false ≡ true → b ≡ true
 both true b e = e
@@ -88,7 +88,7 @@ first false false false run e = absurd cc
 
 of_run : (c : Config) (run : Run) (now : ℕ) (f : Follows) → is_run_due c run now f ≡ true
     → is_due_in c now (line_of run f.lines) ≡ true
-of_run c run now f e = both (is_some (source_in f.streams run)) (is_due_in c now (line_of run f.lines)) e
+of_run c run now f e = both (is_some (run_source f.streams run)) (is_due_in c now (line_of run f.lines)) e
 
 is_due : (run : Run) (c : Config) (now : ℕ) (f : Follows) → run_due c now f ≡ Some run
     → is_due_in c now (line_of run f.lines) ≡ true
@@ -105,10 +105,10 @@ is_due runs.Tried c now f e =
 line_due : (c : Config) (h : History) (now : ℕ) → Fine c now h → is_due_in c now h ≡ true
     → IsDue c (let p : Played = record { line = h; now = now } in p)
 line_due c h now x d =
-    let t = in_time (leb 1048576 (next_in c h)) (ltb (next_in c h) h.until) c h now x refl refl d in
+    let t = in_time (leb 1048576 (next_number_in c h)) (ltb (next_number_in c h) h.until) c h now x refl refl d in
     record { few = t.0; came = t.1; due = t.2 }
 
-played_due : (o : Option Run) (c : Config) (st : State) (l : List Played) → AreFine c st.now st.follows.lines
+played_due : (o : Option Run) (c : Config) (st : SessionState) (l : List Played) → AreFine c st.now st.follows.lines
     → run_due c st.now st.follows ≡ o
     → AllByRecursion (IsDue c) l → AllByRecursion (IsDue c) (played_at o st ++ l)
 played_due None c st l x e h = h
@@ -118,7 +118,7 @@ played_due (Some run) c st l x e h = (
   h,
 )
 
-all_due : (c : Config) (past : List Entry) → AllByRecursion (IsDue c) (plays c past)
+all_due : (c : Config) (past : List SessionEntry) → AllByRecursion (IsDue c) (session_plays c past)
 all_due c [] = tt
 all_due c (Datagram bytes now ∷ past) = all_due c past
 all_due c (DatagramOf only bytes now ∷ past) = all_due c past
@@ -128,13 +128,14 @@ all_due c (Anew now ∷ past) = all_due c past
 all_due c (Turn now ∷ past) =
     let st = session_run c past in
     let a = at now st in
-    played_due (played_run c a) c a (plays c past) (at_fine c now st (lines_fine c past)) refl (all_due c past)
+    played_due (played_run c a) c a (session_plays c past) (at_fine c now st (lines_fine c past)) refl (all_due c past)
 
-one_each : (o : Option Run) (st : State) (l : List Played) (n : ℕ) → length l ≤ n → length (played_at o st ++ l) ≤ n + 1
+one_each : (o : Option Run) (st : SessionState) (l : List Played) (n : ℕ) → length l ≤ n
+    → length (played_at o st ++ l) ≤ n + 1
 one_each None st l n h = omega arith
 one_each (Some run) st l n h = omega arith
 
-no_more : (c : Config) (past : List Entry) → length (plays c past) ≤ turns past
+no_more : (c : Config) (past : List SessionEntry) → length (session_plays c past) ≤ turns past
 no_more c [] = omega arith
 no_more c (Datagram bytes now ∷ past) = no_more c past
 no_more c (DatagramOf only bytes now ∷ past) = no_more c past
@@ -143,10 +144,10 @@ no_more c (Ended source now ∷ past) = no_more c past
 no_more c (Anew now ∷ past) = no_more c past
 no_more c (Turn now ∷ past) =
     let a = at now (session_run c past) in
-    one_each (played_run c a) a (plays c past) (turns past) (no_more c past)
+    one_each (played_run c a) a (session_plays c past) (turns past) (no_more c past)
 
-pub plays_are_due : (c : Config) (past : List Entry)
-    → AllByRecursion (IsDue c) (plays c past) × (length (plays c past) ≤ turns past)
+pub plays_are_due : (c : Config) (past : List SessionEntry)
+    → AllByRecursion (IsDue c) (session_plays c past) × (length (session_plays c past) ≤ turns past)
 plays_are_due c past = (all_due c past, no_more c past)
 
 -- ---- it has waited
@@ -163,22 +164,23 @@ has_waited law c p d shortest packet later before e h t s said next near timed s
     (λ (f : is_due_by p.now (time_due c p.line) ≡ true).
     by_then (due_of c.wait packet.picture (later ++ before)) packet.at p.now
     (ap (λ (n : ℕ). is_due_by p.now (due_of c.wait n (later ++ before))) next
-    ∙ sym (ap (λ (l : List Arrival). is_due_by p.now (due_of c.wait (next_in c p.line) l)) e) ∙ f)
+    ∙ sym (ap (λ (l : List Arrival). is_due_by p.now (due_of c.wait (next_number_in c p.line) l)) e) ∙ f)
     (law c.wait shortest packet later before h t s said timed short))
-    (λ (f : next_in c p.line + c.lead < newest_number c p.line). absurd (omega (arith, f, near)))
+    (λ (f : next_number_in c p.line + c.lead < newest_number c p.line). absurd (omega (arith, f, near)))
     d.due
 
 each : InTime → (c : Config) (l : List Played) → AllByRecursion (IsDue c) l → AllByRecursion (HasWaited c) l
 each law c [] d = tt
 each law c (p ∷ l) d = (has_waited law c p d.0, each law c l d.1)
 
-pub plays_wait : InTime → (c : Config) (past : List Entry) → AllByRecursion (HasWaited c) (plays c past)
-plays_wait law c past = each law c (plays c past) (all_due c past)
+pub plays_wait : InTime → (c : Config) (past : List SessionEntry) → AllByRecursion (HasWaited c) (session_plays c past)
+plays_wait law c past = each law c (session_plays c past) (all_due c past)
 
 -- ---- it isn't ahead
 
-pub never_ahead : numbers.NeverAhead
-    → (c : Config) (past : List Entry) (run : Run) (later before : List Heard) (x y : Newest) → IsRate c.rate
+pub never_ahead : numbers.NumbersNeverAhead
+    → (c : Config) (past : List SessionEntry) (run : Run) (later before : List HeardPacket) (x y : Newest)
+    → IsRate c.rate
     → heard_of (line_of run (session_run c past).follows.lines).past ≡ later ++ before
     → newest_after c.rate before ≡ Some x
     → newest_after c.rate (heard_of (line_of run (session_run c past).follows.lines).past) ≡ Some y
@@ -187,7 +189,7 @@ pub never_ahead : numbers.NeverAhead
 never_ahead law c past run later before x y r e f g =
     let st = session_run c past in
     let order = (line_fine run c st.now st.follows.lines (lines_fine c past)).order in
-    let b = subst (λ (l : List Heard). Back st.now l) e order in
+    let b = subst (λ (l : List HeardPacket). Back st.now l) e order in
     let i = in_order c.rate st.now later before x f b in
     let h = law c.rate x (onto later []) r i in
     let same = after_later c.rate later before [] x y f

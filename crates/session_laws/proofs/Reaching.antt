@@ -17,7 +17,7 @@ use Rattle.stream_numbers.specs.declared.newest.Newest.{Newest}
 use Rattle.stream_numbers.specs.declared.packet.Packet.{Packet}
 use Rattle.stream_numbers.specs.declared.stepping.Step.{Step}
 use Rattle.stream_numbers.specs.Placing.{step_of}
-use Rattle.stream_numbers.specs.Streams.{kept, newest_after}
+use Rattle.stream_numbers.specs.Streams.{newest_kept, newest_after}
 use Rattle.packet_gaps.specs.declared.moment.Moment.{Moment}
 use Rattle.playout_times.specs.declared.arrival.Arrival.{Arrival}
 use Rattle.receiver_end.specs.State.{answer_after}
@@ -26,13 +26,13 @@ use Rattle.stream_run.specs.Entries.{heard_of, with_place}
 use Rattle.session_intake.specs.Datagrams.{seen_in}
 use Rattle.session_intake.specs.declared.seen.Seen.{Seen}
 use Rattle.session_intake.specs.declared.seen.Cause.{Cause}
-use Rattle.session_runs.specs.Histories.{Ahead, Config, History, IsHeard, after_nack, after_packet, after_play, answer_at, answer_in, begun, is_complete, is_heard, must_begin, ready, timed_in, until_after}
-use Rattle.session_runs.specs.Lines.{Lines, begun_lines, line_of, made_ready, run_of, turned, with_line}
+use Rattle.session_runs.specs.Histories.{Ahead, Config, History, IsHeard, after_nack, history_after_packet, history_after_play, answer_at, answer_in, history_begun, answer_completes, is_heard, must_begin, ready, timed_in, until_after}
+use Rattle.session_runs.specs.Lines.{Lines, begun_lines, line_of, made_ready, taker_run, turned, lines_with}
 use Rattle.session_runs.specs.declared.unheard.Unheard.{Unheard}
 use Rattle.session_runs.specs.Unheard.{after_heard as unheard_after}
 use Rattle.session_runs.specs.Following.{Follows, after_run, completed_if, moment_of}
 use Rattle.call_session.specs.Sessions as session
-use Rattle.session_laws.specs.Bounded.{newest_number, number_of}
+use Rattle.session_laws.specs.Bounded.{newest_number, number_of_newest}
 use Rattle.session_laws.proofs.Newest.{Back, StepsTo, back_later, steps}
 
 -- ---- one line
@@ -45,7 +45,7 @@ pub record Fine (c : Config) (now : ℕ) (h : History) : Type 0 where
   pub until : (n : ℕ) → n < h.until → n + c.lead < newest_number c h
   pub since : h.unheard.since ≤ now
 
-begun_fine : (c : Config) (now then reference : ℕ) → then ≤ now → Fine c now (begun reference then)
+begun_fine : (c : Config) (now then reference : ℕ) → then ≤ now → Fine c now (history_begun reference then)
 begun_fine c now then reference i =
     record { order = tt; heard = tt; until = λ n j. omega arith; since = i }
 
@@ -62,7 +62,7 @@ fine_later c then now h i x =
     over a b n h i = omega arith
 
 ready_if : (b : Bool) (c : Config) (now reference : ℕ) (h : History) → Fine c now h
-    → Fine c now (cond b (begun reference now) h)
+    → Fine c now (cond b (history_begun reference now) h)
 ready_if true c now reference h x = begun_fine c now now reference (omega arith)
 ready_if false c now reference h x = x
 
@@ -88,14 +88,14 @@ heard_if false n bytes a past i x = (i, x)
 
 heard_after : (before : Option Newest) (s : Option Step) (first lead : ℕ) (bytes : List ℕ) (now : ℕ)
     (past : List timed.Entry)
-    → StepsTo before now s → AreBelow (number_of before) (timed.arrivals_of past)
-    → AreBelow (number_of (kept s before))
+    → StepsTo before now s → AreBelow (number_of_newest before) (timed.arrivals_of past)
+    → AreBelow (number_of_newest (newest_kept s before))
     (timed.arrivals_of (with_place first lead (option_map (λ x. x.place) s) bytes now past))
 heard_after before None first lead bytes now past g x = x
 heard_after before (Some s) first lead bytes now past g x =
-    heard_if (ltb (timed.next_after first past + lead) s.place.number) s.newest.number bytes
+    heard_if (ltb (timed.next_number_after first past + lead) s.place.number) s.newest.number bytes
     (record { picture = s.place.number; captured = s.place.captured; at = now }) past g.place
-    (more (number_of before) s.newest.number (timed.arrivals_of past) g.old x)
+    (more (number_of_newest before) s.newest.number (timed.arrivals_of past) g.old x)
 
 greater : (m until number lead before newest : ℕ) → (m < until → m + lead < before) → before ≤ newest → number ≤ newest
     → m < max until (number - lead) → m + lead < newest
@@ -121,15 +121,15 @@ until_if false false number x y m until lead before newest f i j l =
 
 until_place : (c : Config) (before : Option Newest) (s : Option Step) (first : ℕ) (bytes : List ℕ) (now : ℕ)
     (past : List timed.Entry) (m until : ℕ)
-    → StepsTo before now s → (m < until → m + c.lead < number_of before)
+    → StepsTo before now s → (m < until → m + c.lead < number_of_newest before)
     → m < until_after (answer_at c.params first c.lead past (option_map (λ x. x.place) s) bytes) c.lead until
-    → m + c.lead < number_of (kept s before)
+    → m + c.lead < number_of_newest (newest_kept s before)
 until_place c before None first bytes now past m until g f l = f l
 until_place c before (Some s) first bytes now past m until g f l =
-    until_if (ltb (timed.next_after first past + c.lead) s.place.number)
-    (ltb s.place.number (timed.next_after first past))
+    until_if (ltb (timed.next_number_after first past + c.lead) s.place.number)
+    (ltb s.place.number (timed.next_number_after first past))
     s.place.number receiving.Late (answer_after c.params (timed.entries_of first past) bytes) m until c.lead
-    (number_of before) s.newest.number f g.old g.place l
+    (number_of_newest before) s.newest.number f g.old g.place l
 
 since_if : (b : Bool) (now since : ℕ) → since ≤ now → cond b now since ≤ now
 since_if true now since i = omega arith
@@ -140,7 +140,7 @@ since_after true now u i = omega arith
 since_after false now u i = since_if (eqb u.packets 0) now u.since i
 
 packet_fine : (c : Config) (packet : Packet) (bytes : List ℕ) (now : ℕ) (h : History) → Fine c now h
-    → Fine c now (after_packet c packet bytes now h)
+    → Fine c now (history_after_packet c packet bytes now h)
 packet_fine c packet bytes now h x =
     let before = newest_after c.rate (heard_of h.past) in
     let s = step_of c.rate before packet now in
@@ -152,7 +152,7 @@ packet_fine c packet bytes now h x =
       since = since_after (is_heard (answer_in c packet bytes now h)) now h.unheard x.since;
     }
 
-play_fine : (c : Config) (now : ℕ) (h : History) → Fine c now h → Fine c now (after_play c now h)
+play_fine : (c : Config) (now : ℕ) (h : History) → Fine c now h → Fine c now (history_after_play c now h)
 play_fine c now h x = record { order = x.order; heard = x.heard; until = x.until; since = x.since }
 
 -- asking for its packets changes nothing of it
@@ -181,7 +181,7 @@ line_fine runs.Former c now l x = x.former
 line_fine runs.Tried c now l x = x.tried
 
 with_fine : (run : Run) (c : Config) (now : ℕ) (h : History) (l : Lines) → Fine c now h → AreFine c now l
-    → AreFine c now (with_line run h l)
+    → AreFine c now (lines_with run h l)
 with_fine runs.Followed c now h l i x = record { followed = i; former = x.former; tried = x.tried }
 with_fine runs.Former c now h l i x = record { followed = x.followed; former = i; tried = x.tried }
 with_fine runs.Tried c now h l i x = record { followed = x.followed; former = x.former; tried = i }
@@ -214,36 +214,36 @@ run_fine : (o : Option Run) (c : Config) (packet : Packet) (bytes : List ℕ) (n
     → AreFine c now (after_run c o packet bytes now f).lines
 run_fine None c packet bytes now f x = x
 run_fine (Some run) c packet bytes now f x =
-    completed_fine (is_complete (answer_in c packet bytes now (line_of run f.lines))) c run now (record {
+    completed_fine (answer_completes (answer_in c packet bytes now (line_of run f.lines))) c run now (record {
       streams = f.streams;
-      lines = with_line run (after_packet c packet bytes now (line_of run f.lines)) f.lines;
+      lines = lines_with run (history_after_packet c packet bytes now (line_of run f.lines)) f.lines;
     })
-    (with_fine run c now (after_packet c packet bytes now (line_of run f.lines)) f.lines
+    (with_fine run c now (history_after_packet c packet bytes now (line_of run f.lines)) f.lines
     (packet_fine c packet bytes now (line_of run f.lines) (line_fine run c now f.lines x)) x)
 
-granted_fine : (g : Bool) (c : Config) (seen : Seen) (t : Taker) (own : List ℕ) (st : session.State)
+granted_fine : (g : Bool) (c : Config) (seen : Seen) (t : Taker) (own : List ℕ) (st : session.SessionState)
     → AreFine c st.now st.follows.lines
     → AreFine c st.now (session.after_grant c seen t own g (session.asked_for t st)).follows.lines
 granted_fine false c seen t own st x = x
 granted_fine true c seen t own st x =
-    run_fine (run_of t) c seen.packet own st.now (record {
-      streams = choice.after_packet st.follows.streams seen.source st.now;
+    run_fine (taker_run t) c seen.packet own st.now (record {
+      streams = choice.streams_after_packet st.follows.streams seen.source st.now;
       lines = made_ready c t seen.packet.reference st.now st.follows.lines;
     })
     (made_fine t c st.now seen.packet.reference st.follows.lines x)
 
-reading_fine : (r : Result Seen Cause) (c : Config) (own : List ℕ) (st : session.State)
+reading_fine : (r : Result Seen Cause) (c : Config) (own : List ℕ) (st : session.SessionState)
     → AreFine c st.now st.follows.lines
     → AreFine c st.now (session.after_reading c r own st).follows.lines
 reading_fine (Err cause) c own st x = x
 reading_fine (Ok seen) c own st x =
     granted_fine (session.is_looked_at (session.taker_in seen st) st) c seen (session.taker_in seen st) own st x
 
-played_fine : (o : Option Run) (c : Config) (st : session.State) → AreFine c st.now st.follows.lines
+played_fine : (o : Option Run) (c : Config) (st : session.SessionState) → AreFine c st.now st.follows.lines
     → AreFine c st.now (session.after_played c o st).follows.lines
 played_fine None c st x = x
 played_fine (Some run) c st x =
-    with_fine run c st.now (after_play c st.now (line_of run st.follows.lines)) st.follows.lines
+    with_fine run c st.now (history_after_play c st.now (line_of run st.follows.lines)) st.follows.lines
     (play_fine c st.now (line_of run st.follows.lines) (line_fine run c st.now st.follows.lines x)) x
 
 anew_fine : (c : Config) (now : ℕ) → AreFine c now (begun_lines now)
@@ -254,7 +254,7 @@ anew_fine c now =
       tried = begun_fine c now now 0 (omega arith);
     }
 
-missing_fine : (c : Config) (round_trip : ℕ) (st : session.State) → AreFine c st.now st.follows.lines
+missing_fine : (c : Config) (round_trip : ℕ) (st : session.SessionState) → AreFine c st.now st.follows.lines
     → AreFine c st.now (session.after_missing c round_trip st).follows.lines
 missing_fine c round_trip st x =
     with_fine runs.Followed c st.now (after_nack (moment_of c round_trip st.now st.follows) st.follows.lines.followed)
@@ -263,25 +263,25 @@ missing_fine c round_trip st x =
 
 -- ---- whatever came
 
-no_later : (last now : ℕ) → last ≤ session.time_of last now
+no_later : (last now : ℕ) → last ≤ session.session_time last now
 no_later last now = omega arith
 
-granted_now : (g : Bool) (c : Config) (seen : Seen) (t : Taker) (own : List ℕ) (st : session.State)
+granted_now : (g : Bool) (c : Config) (seen : Seen) (t : Taker) (own : List ℕ) (st : session.SessionState)
     → (session.after_grant c seen t own g (session.asked_for t st)).now ≡ st.now
 granted_now false c seen t own st = refl
 granted_now true c seen t own st = refl
 
-reading_now : (r : Result Seen Cause) (c : Config) (own : List ℕ) (st : session.State)
+reading_now : (r : Result Seen Cause) (c : Config) (own : List ℕ) (st : session.SessionState)
     → (session.after_reading c r own st).now ≡ st.now
 reading_now (Err cause) c own st = refl
 reading_now (Ok seen) c own st =
     granted_now (session.is_looked_at (session.taker_in seen st) st) c seen (session.taker_in seen st) own st
 
-pub at_fine : (c : Config) (now : ℕ) (st : session.State) → AreFine c st.now st.follows.lines
-    → AreFine c (session.time_of st.now now) st.follows.lines
-at_fine c now st x = lines_later c st.now (session.time_of st.now now) st.follows.lines (no_later st.now now) x
+pub at_fine : (c : Config) (now : ℕ) (st : session.SessionState) → AreFine c st.now st.follows.lines
+    → AreFine c (session.session_time st.now now) st.follows.lines
+at_fine c now st x = lines_later c st.now (session.session_time st.now now) st.follows.lines (no_later st.now now) x
 
-datagram_fine : (r : Result Seen Cause) (c : Config) (own : List ℕ) (a : session.State)
+datagram_fine : (r : Result Seen Cause) (c : Config) (own : List ℕ) (a : session.SessionState)
     → AreFine c a.now a.follows.lines
     → AreFine c (session.after_reading c r own a).now (session.after_reading c r own a).follows.lines
 datagram_fine r c own a x =
@@ -291,7 +291,7 @@ datagram_fine r c own a x =
     same : (a b : ℕ) → b ≡ a → a ≤ b
     same a b e = omega arith
 
-pub lines_fine : (c : Config) (past : List session.Entry)
+pub lines_fine : (c : Config) (past : List session.SessionEntry)
     → AreFine c (session.session_run c past).now (session.session_run c past).follows.lines
 lines_fine c [] =
     record {
@@ -314,4 +314,4 @@ lines_fine c (session.Asked round_trip now ∷ past) =
     let st = session.session_run c past in
     missing_fine c round_trip (session.at now st) (at_fine c now st (lines_fine c past))
 lines_fine c (session.Ended source now ∷ past) = at_fine c now (session.session_run c past) (lines_fine c past)
-lines_fine c (session.Anew now ∷ past) = anew_fine c (session.time_of (session.session_run c past).now now)
+lines_fine c (session.Anew now ∷ past) = anew_fine c (session.session_time (session.session_run c past).now now)

@@ -17,12 +17,12 @@ use Rattle.session_intake.specs.Datagrams.{seen_in}
 use Rattle.session_intake.specs.declared.seen.Seen.{Seen}
 use Rattle.session_intake.specs.declared.seen.Cause.{Cause}
 use Rattle.session_intake.specs.declared.seen.Cause.TheVariants as causes
-use Rattle.session_runs.specs.Histories.{Config, after_packet, answer_in, is_complete}
-use Rattle.session_runs.specs.Lines.{Lines, line_of, made_ready, run_of, with_line}
+use Rattle.session_runs.specs.Histories.{Config, history_after_packet, answer_in, answer_completes}
+use Rattle.session_runs.specs.Lines.{Lines, line_of, made_ready, taker_run, lines_with}
 use Rattle.session_runs.specs.Following.{Follows, after_run, completed_if}
 use Rattle.call_session.specs.Sessions as session
 use Rattle.session_laws.specs.Undisturbed.{InOrder, is_from, is_from_other, newest_time}
-use Rattle.session_laws.specs.Recovering.{IsAlone, NoneTaken, completes, is_taken}
+use Rattle.session_laws.specs.Recovering.{IsAlone, NoneTaken, completes_picture, is_taken}
 use Rattle.session_laws.proofs.Apart.{reached, set_to}
 use Rattle.session_laws.proofs.Marking.{Each, Keeps, Shows, by_taker, complete_if, noted_by, shows, source_if}
 
@@ -30,7 +30,7 @@ use Rattle.session_laws.proofs.Marking.{Each, Keeps, Shows, by_taker, complete_i
 
 abbrev pub completes_by : Config → Option Run → Seen → List ℕ → ℕ → Lines → Bool
 completes_by c None seen own now l = false
-completes_by c (Some run) seen own now l = is_complete (answer_in c seen.packet own now (line_of run l))
+completes_by c (Some run) seen own now l = answer_completes (answer_in c seen.packet own now (line_of run l))
 
 completed : (k : Bool) (run : Run) (now : ℕ) (f : Follows)
     → (completed_if k run now f).streams ≡ complete_if k (Some run) now f.streams
@@ -44,31 +44,31 @@ run_streams None c seen own now f = refl
 run_streams (Some run) c seen own now f =
     completed (completes_by c (Some run) seen own now f.lines) run now (record {
       streams = f.streams;
-      lines = with_line run (after_packet c seen.packet own now (line_of run f.lines)) f.lines;
+      lines = lines_with run (history_after_packet c seen.packet own now (line_of run f.lines)) f.lines;
     })
 
-abbrev pub lines_for : Config → Seen → Taker → session.State → Lines
+abbrev pub lines_for : Config → Seen → Taker → session.SessionState → Lines
 lines_for c seen t st = made_ready c t seen.packet.reference st.now st.follows.lines
 
 -- with the taker that the streams give
-abbrev pub streams_by : Bool → Config → Seen → Taker → List ℕ → session.State → Streams
+abbrev pub streams_by : Bool → Config → Seen → Taker → List ℕ → session.SessionState → Streams
 streams_by true c seen t own st =
-    complete_if (completes_by c (run_of t) seen own st.now (lines_for c seen t st)) (run_of t) st.now
+    complete_if (completes_by c (taker_run t) seen own st.now (lines_for c seen t st)) (taker_run t) st.now
     (noted_by t seen.source st.now st.follows.streams)
 streams_by false c seen t own st = st.follows.streams
 
-pub seen_streams : (g : Bool) (c : Config) (seen : Seen) (own : List ℕ) (st : session.State)
+pub seen_streams : (g : Bool) (c : Config) (seen : Seen) (own : List ℕ) (st : session.SessionState)
     → let t = session.taker_in seen st in
     (session.after_grant c seen t own g (session.asked_for t st)).follows.streams ≡ streams_by g c seen t own st
 seen_streams false c seen own st = refl
 seen_streams true c seen own st =
     let t = session.taker_in seen st in
-    run_streams (run_of t) c seen own st.now (record {
-      streams = choice.after_packet st.follows.streams seen.source st.now;
+    run_streams (taker_run t) c seen own st.now (record {
+      streams = choice.streams_after_packet st.follows.streams seen.source st.now;
       lines = lines_for c seen t st;
     })
 
-pub shows_in : (seen : Seen) (st : session.State) → let s = st.follows.streams in
+pub shows_in : (seen : Seen) (st : session.SessionState) → let s = st.follows.streams in
     Shows (choice.is_of s.followed seen.source) (choice.is_of s.former seen.source)
     (choice.is_tried s.tried seen.source st.now) (session.taker_in seen st)
 shows_in seen st =
@@ -79,17 +79,17 @@ shows_in seen st =
     (choice.may_begin s.tried seen.source st.now)
 
 module _ {P : Stream → Type 0} {Q : Trial → Type 0} where
-  granted_each : (g : Bool) (c : Config) (seen : Seen) (own : List ℕ) (st : session.State) (t : Taker)
+  granted_each : (g : Bool) (c : Config) (seen : Seen) (own : List ℕ) (st : session.SessionState) (t : Taker)
       → Shows (choice.is_of st.follows.streams.followed seen.source)
       (choice.is_of st.follows.streams.former seen.source)
       (choice.is_tried st.follows.streams.tried seen.source st.now) t
       → Keeps P Q seen.source st.now → Each P Q st.follows.streams → Each P Q (streams_by g c seen t own st)
   granted_each false c seen own st t e k x = x
   granted_each true c seen own st t e k x =
-      by_taker t (completes_by c (run_of t) seen own st.now (lines_for c seen t st)) seen.source st.now
+      by_taker t (completes_by c (taker_run t) seen own st.now (lines_for c seen t st)) seen.source st.now
       st.follows.streams k e x
 
-  reading_each : (r : Result Seen Cause) (c : Config) (own : List ℕ) (st : session.State)
+  reading_each : (r : Result Seen Cause) (c : Config) (own : List ℕ) (st : session.SessionState)
       → ((seen : Seen) → r ≡ Ok seen → Keeps P Q seen.source st.now)
       → Each P Q st.follows.streams → Each P Q (session.after_reading c r own st).follows.streams
   reading_each (Err cause) c own st k x = x
@@ -118,7 +118,7 @@ module _ {P : Stream → Type 0} {Q : Trial → Type 0} where
   ended_each st source now k x =
       record { followed = ended_one P st.followed source now k x.followed; former = x.former; tried = x.tried }
 
-pub played_streams : (o : Option Run) (c : Config) (st : session.State)
+pub played_streams : (o : Option Run) (c : Config) (st : session.SessionState)
     → (session.after_played c o st).follows.streams ≡ st.follows.streams
 played_streams None c st = refl
 played_streams (Some run) c st = refl
@@ -162,7 +162,7 @@ each_later st then now i x =
 ended_last : (then now : ℕ) (f : Stream) → Last then f → Last then (choice.ended_at now f)
 ended_last then now f h = omega arith
 
-all_past : (c : Config) (past : List session.Entry) → InOrder past
+all_past : (c : Config) (past : List session.SessionEntry) → InOrder past
     → Each (Last (newest_time past)) (Began (newest_time past)) (session.session_run c past).follows.streams
 all_past c [] o = record { followed = tt; former = tt; tried = tt }
 all_past c (session.Datagram bytes now ∷ past) o =
@@ -182,7 +182,8 @@ all_past c (session.Asked round_trip now ∷ past) o =
     each_later st.follows.streams (newest_time past) now o.0 (all_past c past o.2)
 all_past c (session.Ended source now ∷ past) o =
     let st = session.session_run c past in
-    ended_each st.follows.streams source (session.time_of st.now now) (ended_last now (session.time_of st.now now))
+    ended_each st.follows.streams source (session.session_time st.now now)
+    (ended_last now (session.session_time st.now now))
     (each_later st.follows.streams (newest_time past) now o.0 (all_past c past o.2))
 all_past c (session.Anew now ∷ past) o = record { followed = tt; former = tt; tried = tt }
 all_past c (session.Turn now ∷ past) o =
@@ -193,7 +194,7 @@ all_past c (session.Turn now ∷ past) o =
 
 -- ---- not shut out
 
-quiet_by : (t : Taker) (g : Bool) (c : Config) (seen : Seen) (own : List ℕ) (st : session.State)
+quiet_by : (t : Taker) (g : Bool) (c : Config) (seen : Seen) (own : List ℕ) (st : session.SessionState)
     → is_taken (session.outcome_of_grant c seen t own g st) ≡ false
     → streams_by g c seen t own st ≡ st.follows.streams
 quiet_by t false c seen own st e = refl
@@ -203,7 +204,7 @@ quiet_by takers.Tried true c seen own st e = absurd cc
 quiet_by takers.Begins true c seen own st e = absurd cc
 quiet_by takers.NoRun true c seen own st e = refl
 
-quiet : (r : Result Seen Cause) (c : Config) (own : List ℕ) (st : session.State)
+quiet : (r : Result Seen Cause) (c : Config) (own : List ℕ) (st : session.SessionState)
     → is_taken (session.outcome_of_reading c r own st) ≡ false
     → (session.after_reading c r own st).follows.streams ≡ st.follows.streams
 quiet (Err cause) c own st e = refl
@@ -212,7 +213,7 @@ quiet (Ok seen) c own st e =
     let g = session.is_looked_at t st in
     seen_streams g c seen own st ∙ quiet_by t g c seen own st e
 
-quiet_each : (c : Config) (then : ℕ) (before es : List session.Entry)
+quiet_each : (c : Config) (then : ℕ) (before es : List session.SessionEntry)
     → Each (Last then) (Began then) (session.session_run c before).follows.streams → NoneTaken c before es
     → Each (Last then) (Began then) (session.session_run c (es ++ before)).follows.streams
 quiet_each c then before [] x q = x
@@ -232,11 +233,12 @@ quiet_each c then before (session.Turn now ∷ es) x q =
 quiet_each c then before (session.Asked round_trip now ∷ es) x q = quiet_each c then before es x q
 quiet_each c then before (session.Ended source now ∷ es) x q =
     let st = session.session_run c (es ++ before) in
-    ended_each st.follows.streams source (session.time_of st.now now) (ended_last then (session.time_of st.now now))
+    ended_each st.follows.streams source (session.session_time st.now now)
+    (ended_last then (session.session_time st.now now))
     (quiet_each c then before es x q)
 quiet_each c then before (session.Anew now ∷ es) x q = record { followed = tt; former = tt; tried = tt }
 
-dropped_by : (t : Taker) (g : Bool) (c : Config) (seen : Seen) (own : List ℕ) (st : session.State)
+dropped_by : (t : Taker) (g : Bool) (c : Config) (seen : Seen) (own : List ℕ) (st : session.SessionState)
     → session.outcome_of_grant c seen t own g st ≡ session.Dropped causes.OtherStream → t ≡ takers.NoRun
 dropped_by t false c seen own st e = absurd cc
 dropped_by takers.Followed true c seen own st e = absurd cc
@@ -255,8 +257,8 @@ began_past : (o : Option Trial) (then now : ℕ) → then + 1500000000 ≤ now �
 began_past None then now i h = tt
 began_past (Some t) then now i h = omega arith
 
-shut_by : streams.NeverShutOut → (r : Result Seen Cause) (c : Config) (source then now : ℕ) (own : List ℕ)
-    (st : session.State)
+shut_by : streams.StreamsNeverShutOut → (r : Result Seen Cause) (c : Config) (source then now : ℕ) (own : List ℕ)
+    (st : session.SessionState)
     → is_from source r ≡ true → st.now ≡ now → then + 1500000000 ≤ now
     → Each (Last then) (Began then) st.follows.streams
     → session.outcome_of_reading c r own st ≡ session.Dropped causes.OtherStream → ⊥
@@ -271,12 +273,12 @@ shut_by law (Ok seen) c source then now own st f n i x e =
     later : (a b then : ℕ) → a ≡ b → then + 1500000000 ≤ a → then + 1500000000 ≤ b
     later a b then e h = omega arith
 
-order_of : (es before : List session.Entry) → InOrder (es ++ before) → InOrder before
+order_of : (es before : List session.SessionEntry) → InOrder (es ++ before) → InOrder before
 order_of [] before o = o
 order_of (e ∷ es) before o = order_of es before o.2
 
-pub never_shut_out : streams.NeverShutOut
-    → (c : Config) (source : ℕ) (before es : List session.Entry) (bytes : List ℕ) (now : ℕ)
+pub never_shut_out : streams.StreamsNeverShutOut
+    → (c : Config) (source : ℕ) (before es : List session.SessionEntry) (bytes : List ℕ) (now : ℕ)
     → InOrder (session.Datagram bytes now ∷ (es ++ before))
     → NoneTaken c before es
     → newest_time before + 1500000000 ≤ now
@@ -328,7 +330,7 @@ ended_old source then now f h =
     (λ (i : f.last ≤ then). inr (ended_last then now f i))
     h
 
-all_old : (c : Config) (source : ℕ) (before es : List session.Entry) → InOrder before → IsAlone c source es
+all_old : (c : Config) (source : ℕ) (before es : List session.SessionEntry) → InOrder before → IsAlone c source es
     → Each (Old source (newest_time before)) Any (session.session_run c (es ++ before)).follows.streams
 all_old c source before [] o a =
     let x = all_past c before o in
@@ -353,8 +355,8 @@ all_old c source before (session.DatagramOf only bytes now ∷ es) o a =
 all_old c source before (session.Asked round_trip now ∷ es) o a = all_old c source before es o a
 all_old c source before (session.Ended other now ∷ es) o a =
     let st = session.session_run c (es ++ before) in
-    ended_each st.follows.streams other (session.time_of st.now now)
-    (ended_old source (newest_time before) (session.time_of st.now now)) (all_old c source before es o a)
+    ended_each st.follows.streams other (session.session_time st.now now)
+    (ended_old source (newest_time before) (session.session_time st.now now)) (all_old c source before es o a)
 all_old c source before (session.Anew now ∷ es) o a = record { followed = tt; former = tt; tried = tt }
 all_old c source before (session.Turn now ∷ es) o a =
     let st = session.at now (session.session_run c (es ++ before)) in
@@ -372,7 +374,7 @@ not_live (Some f) source then now e h i =
     h
 
 counted_of : (o : Option Stream) (source now : ℕ) → choice.is_of o source ≡ true
-    → choice.is_of (option_map (choice.counted now) o) source ≡ true
+    → choice.is_of (option_map (choice.stream_counted now) o) source ≡ true
 counted_of None source now e = e
 counted_of (Some f) source now e = e
 
@@ -396,10 +398,10 @@ former_followed : (o : Option Stream) (st : Streams) (source now : ℕ) → choi
     → choice.is_of (choice.with_former st o now).followed source ≡ true
 former_followed None st source now e h = absurd cc
 former_followed (Some g) st source now e h =
-    pick (choice.overtakes st.followed (choice.counted now g) now)
-    (record { followed = Some (choice.counted now g); former = st.followed; tried = st.tried })
-    (record { followed = st.followed; former = Some (choice.counted now g); tried = st.tried }) source
-    (overtakes_dead st.followed (choice.counted now g) now h) e
+    pick (choice.overtakes st.followed (choice.stream_counted now g) now)
+    (record { followed = Some (choice.stream_counted now g); former = st.followed; tried = st.tried })
+    (record { followed = st.followed; former = Some (choice.stream_counted now g); tried = st.tried }) source
+    (overtakes_dead st.followed (choice.stream_counted now g) now h) e
 
 trial_followed : (t : Trial) (st : Streams) (source now : ℕ) → eqb t.source source ≡ true
     → choice.is_live_one st.followed now ≡ false
@@ -428,12 +430,12 @@ complete_true true run st source now e h = h
 complete_true false run st source now e h = absurd cc
 
 -- as long as no other stream is live
-followed_by : (t : Taker) (g : Bool) (c : Config) (seen : Seen) (own : List ℕ) (st : session.State)
+followed_by : (t : Taker) (g : Bool) (c : Config) (seen : Seen) (own : List ℕ) (st : session.SessionState)
     → Shows (choice.is_of st.follows.streams.followed seen.source) (choice.is_of st.follows.streams.former seen.source)
     (choice.is_tried st.follows.streams.tried seen.source st.now) t
     → (choice.is_of st.follows.streams.followed seen.source ≡ false
     → choice.is_live_one st.follows.streams.followed st.now ≡ false)
-    → completes (session.outcome_of_grant c seen t own g st) ≡ true
+    → completes_picture (session.outcome_of_grant c seen t own g st) ≡ true
     → choice.is_of (streams_by g c seen t own st).followed seen.source ≡ true
 followed_by t false c seen own st s l e = absurd cc
 followed_by takers.Followed true c seen own st s l e =
@@ -460,10 +462,10 @@ followed_by takers.Begins true c seen own st s l e =
     (eq-eqb seen.source seen.source refl) (l s))
 followed_by takers.NoRun true c seen own st s l e = absurd cc
 
-by_reading : (r : Result Seen Cause) (c : Config) (source then now : ℕ) (own : List ℕ) (st : session.State)
+by_reading : (r : Result Seen Cause) (c : Config) (source then now : ℕ) (own : List ℕ) (st : session.SessionState)
     → is_from source r ≡ true → st.now ≡ now → then + 500000000 ≤ now
     → Each (Old source then) Any st.follows.streams
-    → completes (session.outcome_of_reading c r own st) ≡ true
+    → completes_picture (session.outcome_of_reading c r own st) ≡ true
     → choice.is_of (session.after_reading c r own st).follows.streams.followed source ≡ true
 by_reading (Err cause) c source then now own st f n i x e = absurd cc
 by_reading (Ok seen) c source then now own st f n i x e =
@@ -480,12 +482,12 @@ by_reading (Ok seen) c source then now own st f n i x e =
     later : (a b then : ℕ) → a ≡ b → then + 500000000 ≤ a → then + 500000000 ≤ b
     later a b then e h = omega arith
 
-pub followed_again : (c : Config) (source : ℕ) (before es : List session.Entry) (bytes : List ℕ) (now : ℕ)
+pub followed_again : (c : Config) (source : ℕ) (before es : List session.SessionEntry) (bytes : List ℕ) (now : ℕ)
     → InOrder (session.Datagram bytes now ∷ (es ++ before))
     → IsAlone c source es
     → newest_time before + 500000000 ≤ now
     → is_from source (seen_in c.params bytes) ≡ true
-    → completes (session.outcome_of c bytes now (session.session_run c (es ++ before))) ≡ true
+    → completes_picture (session.outcome_of c bytes now (session.session_run c (es ++ before))) ≡ true
     → choice.is_of (session.session_run c (session.Datagram bytes now ∷ (es ++ before))).follows.streams.followed source
     ≡ true
 followed_again c source before es bytes now o a i f e =

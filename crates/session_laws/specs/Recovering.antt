@@ -11,14 +11,14 @@ use Rattle.playout_times.specs.declared.arrival.Arrival.{Arrival}
 use Rattle.playout_times.specs.Due.{captured_from, due_of}
 use Rattle.playout_times.specs.Kept.{IsTimed}
 use Rattle.playout_times.specs.Laws.{Hides}
-use Rattle.playout_times.specs.Ways.{way}
+use Rattle.playout_times.specs.Ways.{transit}
 use Rattle.timed_receiver.specs.Timed.{arrivals_of}
 use Rattle.stream_run.specs.Entries.{heard_of}
 use Rattle.session_intake.specs.declared.seen.Cause.TheVariants as causes
 use Rattle.session_intake.specs.Datagrams.{seen_in}
-use Rattle.session_runs.specs.Histories.{Config, History, IsHeard, after_packet, answer_in, begun, is_complete, is_heard, must_begin, next_in, ready, timed_in}
+use Rattle.session_runs.specs.Histories.{Config, History, IsHeard, history_after_packet, answer_in, history_begun, answer_completes, is_heard, must_begin, next_number_in, ready, timed_in}
 use Rattle.session_runs.specs.Lines.{line_of}
-use Rattle.call_session.specs.Sessions.{Anew, Asked, Datagram, DatagramOf, Dropped, Ended, Entry, Outcome, Taken, Turn, outcome_of, outcome_of_one, seen_of_one, session_run}
+use Rattle.call_session.specs.Sessions.{Anew, Asked, Datagram, DatagramOf, Dropped, Ended, SessionEntry, Outcome, Taken, Turn, outcome_of, outcome_of_one, seen_of_one, session_run}
 use Rattle.session_laws.specs.Undisturbed.{InOrder, is_from, is_from_other, newest_time}
 
 -- ---- taken again
@@ -28,7 +28,7 @@ is_taken (Dropped cause) = false
 is_taken (Taken run source answer) = true
 
 -- no packet of these was taken by a run
-abbrev pub NoneTaken : Config → List Entry → List Entry → Type 0
+abbrev pub NoneTaken : Config → List SessionEntry → List SessionEntry → Type 0
 NoneTaken c before [] = Unit {0}
 NoneTaken c before (Datagram bytes now ∷ es) =
     (is_taken (outcome_of c bytes now (session_run c (es ++ before))) ≡ false) × NoneTaken c before es
@@ -43,7 +43,7 @@ NoneTaken c before (Anew now ∷ es) = NoneTaken c before es
 -- isn't dropped for another's sake.
 abbrev pub NeverShutOut : Type 0
 NeverShutOut =
-    (c : Config) (source : ℕ) (before es : List Entry) (bytes : List ℕ) (now : ℕ)
+    (c : Config) (source : ℕ) (before es : List SessionEntry) (bytes : List ℕ) (now : ℕ)
     → InOrder (Datagram bytes now ∷ (es ++ before))
     → NoneTaken c before es
     → newest_time before + 1500000000 ≤ now
@@ -53,7 +53,7 @@ NeverShutOut =
 -- ---- followed again
 
 -- no packet of these is of another stream
-abbrev pub IsAlone : Config → ℕ → List Entry → Type 0
+abbrev pub IsAlone : Config → ℕ → List SessionEntry → Type 0
 IsAlone c source [] = Unit {0}
 IsAlone c source (Datagram bytes now ∷ es) =
     (is_from_other source (seen_in c.params bytes) ≡ false) × IsAlone c source es
@@ -65,46 +65,46 @@ IsAlone c source (Ended other now ∷ es) = IsAlone c source es
 IsAlone c source (Anew now ∷ es) = IsAlone c source es
 
 -- with this packet a picture of its run is complete
-abbrev pub completes : Outcome → Bool
-completes (Dropped cause) = false
-completes (Taken run source answer) = is_complete answer
+abbrev pub completes_picture : Outcome → Bool
+completes_picture (Dropped cause) = false
+completes_picture (Taken run source answer) = answer_completes answer
 
 -- Whatever came before: once packets of one stream alone came for half a second, the stream is followed
 -- from its next complete picture on.
 abbrev pub FollowedAgain : Type 0
 FollowedAgain =
-    (c : Config) (source : ℕ) (before es : List Entry) (bytes : List ℕ) (now : ℕ)
+    (c : Config) (source : ℕ) (before es : List SessionEntry) (bytes : List ℕ) (now : ℕ)
     → InOrder (Datagram bytes now ∷ (es ++ before))
     → IsAlone c source es
     → newest_time before + 500000000 ≤ now
     → is_from source (seen_in c.params bytes) ≡ true
-    → completes (outcome_of c bytes now (session_run c (es ++ before))) ≡ true
+    → completes_picture (outcome_of c bytes now (session_run c (es ++ before))) ≡ true
     → is_of (session_run c (Datagram bytes now ∷ (es ++ before))).follows.streams.followed source ≡ true
 
 -- ---- heard again
 
 -- packets that a run takes in a row: what each says, its bytes, and when it came
-abbrev pub Row : Type 0
-Row = List (Packet × List ℕ × ℕ)
+abbrev pub PacketsInRow : Type 0
+PacketsInRow = List (Packet × List ℕ × ℕ)
 
 -- each begins the run anew where that is needed
-abbrev pub after_row : Config → History → Row → History
+abbrev pub after_row : Config → History → PacketsInRow → History
 after_row c h [] = h
-after_row c h (p ∷ ps) = after_packet c p.0 p.1 p.2 (ready c p.0.reference p.2 (after_row c h ps))
+after_row c h (p ∷ ps) = history_after_packet c p.0 p.1 p.2 (ready c p.0.reference p.2 (after_row c h ps))
 
 -- none of them is heard
-abbrev pub NoneIsHeard : Config → History → Row → Type 0
+abbrev pub NoneIsHeard : Config → History → PacketsInRow → Type 0
 NoneIsHeard c h [] = Unit {0}
 NoneIsHeard c h (p ∷ ps) =
     (is_heard (answer_in c p.0 p.1 p.2 (ready c p.0.reference p.2 (after_row c h ps))) ≡ false) × NoneIsHeard c h ps
 
 -- and none begins the run anew
-abbrev pub NoneBegins : Config → History → Row → Type 0
+abbrev pub NoneBegins : Config → History → PacketsInRow → Type 0
 NoneBegins c h [] = Unit {0}
 NoneBegins c h (p ∷ ps) = (must_begin c p.2 (after_row c h ps) ≡ false) × NoneBegins c h ps
 
 -- when the first of them came, or this time where there is none
-abbrev pub first_time : ℕ → Row → ℕ
+abbrev pub first_time : ℕ → PacketsInRow → ℕ
 first_time now [] = now
 first_time now (p ∷ ps) = first_time p.2 ps
 
@@ -113,13 +113,13 @@ first_time now (p ∷ ps) = first_time p.2 ps
 -- pictures up to the third before it.
 abbrev pub HeardAgain : Type 0
 HeardAgain =
-    ((c : Config) (past : List Entry) (run : Run) (p : Packet × List ℕ × ℕ) (ps : Row)
+    ((c : Config) (past : List SessionEntry) (run : Run) (p : Packet × List ℕ × ℕ) (ps : PacketsInRow)
     → let h = line_of run (session_run c past).follows.lines in
     (session_run c past).now ≤ first_time p.2 ps
     → NoneIsHeard c h (p ∷ ps) → NoneBegins c h (p ∷ ps) → 30 ≤ length ps
     → p.2 < first_time p.2 ps + 1000000000)
     × ((c : Config) (packet : Packet) (bytes : List ℕ) (now : ℕ) → 2 ≤ c.lead
-    → answer_in c packet bytes now (begun packet.reference now)
+    → answer_in c packet bytes now (history_begun packet.reference now)
     ≡ IsHeard (answer_after c.params (plays_alone (packet.reference - 2)) bytes))
 
 -- ---- in time again
@@ -130,21 +130,21 @@ abbrev pub EachCounts : Type 0
 EachCounts =
     (c : Config) (h : History) (packet : Packet) (bytes : List ℕ) (now : ℕ) (place : Place)
     → place_of c.rate (heard_of h.past) packet now ≡ Some place
-    → place.number ≤ next_in c h + c.lead
-    → arrivals_of (timed_in c (after_packet c packet bytes now h))
+    → place.number ≤ next_number_in c h + c.lead
+    → arrivals_of (timed_in c (history_after_packet c packet bytes now h))
     ≡ record { picture = place.number; captured = place.captured; at = now } ∷ arrivals_of (timed_in c h)
 
 -- Whatever came before: once three pictures of a run came on ways between these two, its next picture is
 -- due between its capture, these ways and the wait.
 abbrev pub DueAgain : Type 0
 DueAgain =
-    (c : Config) (past : List Entry) (run : Run) (shortest longest : ℕ) (later before : List Arrival)
+    (c : Config) (past : List SessionEntry) (run : Run) (shortest longest : ℕ) (later before : List Arrival)
     → let h = line_of run (session_run c past).follows.lines in
     let arrivals = arrivals_of (timed_in c h) in
-    let captured = captured_from (next_in c h) arrivals in
+    let captured = captured_from (next_number_in c h) arrivals in
     arrivals ≡ later ++ before → Hides later before
     → AllByRecursion IsTimed later
-    → AllByRecursion (λ a. (shortest ≤ way a) × (way a ≤ longest)) later
-    → IfSome (due_of c.wait (next_in c h) arrivals)
+    → AllByRecursion (λ a. (shortest ≤ transit a) × (transit a ≤ longest)) later
+    → IfSome (due_of c.wait (next_number_in c h) arrivals)
     (λ time. (captured + shortest + c.wait - 4611686018427387904 ≤ time)
     × (time ≤ captured + longest + c.wait - 4611686018427387904))

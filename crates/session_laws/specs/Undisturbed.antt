@@ -11,13 +11,13 @@ use Rattle.stream_choice.specs.Choice.{is_live_one, is_of}
 use Rattle.session_intake.specs.declared.seen.Seen.{Seen}
 use Rattle.session_intake.specs.declared.seen.Cause.{Cause}
 use Rattle.session_intake.specs.Datagrams.{seen_in}
-use Rattle.session_runs.specs.Histories.{Config, History, entries_in, next_in}
+use Rattle.session_runs.specs.Histories.{Config, History, history_entries, next_number_in}
 use Rattle.packet_gaps.specs.declared.gaps.Nack.{Nack}
-use Rattle.call_session.specs.Sessions.{Anew, Asked, Datagram, DatagramOf, Ended, Entry, Outcome, State, Turn, at, missing_at, outcome_of, outcome_of_one, played_run, seen_of_one, session_run}
+use Rattle.call_session.specs.Sessions.{Anew, Asked, Datagram, DatagramOf, Ended, SessionEntry, Outcome, SessionState, Turn, at, missing_at, outcome_of, outcome_of_one, played_run, seen_of_one, session_run}
 
 -- ---- the caller's clock
 
-abbrev pub time_in : Entry → ℕ
+abbrev pub time_in : SessionEntry → ℕ
 time_in (Datagram bytes now) = now
 time_in (DatagramOf source bytes now) = now
 time_in (Turn now) = now
@@ -25,12 +25,12 @@ time_in (Asked round_trip now) = now
 time_in (Ended source now) = now
 time_in (Anew now) = now
 
-abbrev pub newest_time : List Entry → ℕ
+abbrev pub newest_time : List SessionEntry → ℕ
 newest_time [] = 0
 newest_time (e ∷ past) = time_in e
 
 -- It doesn't go back, and stays below 2^62.
-abbrev pub InOrder : List Entry → Type 0
+abbrev pub InOrder : List SessionEntry → Type 0
 InOrder [] = Unit {0}
 InOrder (e ∷ past) = (newest_time past ≤ time_in e) × (time_in e < 4611686018427387904) × InOrder past
 
@@ -47,18 +47,18 @@ is_from_other source (Err cause) = false
 is_from_other source (Ok seen) = not (seen.source == source)
 
 -- of this stream, or the caller's own
-abbrev pub is_own : Config → ℕ → Entry → Bool
-is_own c source (Datagram bytes now) = is_from source (seen_in c.params bytes)
-is_own c source (DatagramOf only bytes now) = is_from source (seen_of_one c only bytes)
-is_own c source (Turn now) = true
-is_own c source (Asked round_trip now) = true
-is_own c source (Ended other now) = other == source
-is_own c source (Anew now) = true
+abbrev pub is_own_entry : Config → ℕ → SessionEntry → Bool
+is_own_entry c source (Datagram bytes now) = is_from source (seen_in c.params bytes)
+is_own_entry c source (DatagramOf only bytes now) = is_from source (seen_of_one c only bytes)
+is_own_entry c source (Turn now) = true
+is_own_entry c source (Asked round_trip now) = true
+is_own_entry c source (Ended other now) = other == source
+is_own_entry c source (Anew now) = true
 
 -- what is left without what others send: packets and ends of other streams, and what is no packet of
 -- the call's pictures
-abbrev pub own_of : Config → ℕ → List Entry → List Entry
-own_of c source es = filter (is_own c source) es
+abbrev pub own_of : Config → ℕ → List SessionEntry → List SessionEntry
+own_of c source es = filter (is_own_entry c source) es
 
 -- ---- what is said of the stream that is followed
 
@@ -72,10 +72,10 @@ pub record Play : Type 0 where
 abbrev pub play_in : Config → History → Play
 play_in c h =
     record {
-      number = next_in c h;
-      mark = mark_after c.params (entries_in c h);
-      message = message_after c.params (entries_in c h);
-      picture = (run_of c.params (PlayNext ∷ entries_in c h)).screen;
+      number = next_number_in c h;
+      mark = mark_after c.params (history_entries c h);
+      message = message_after c.params (history_entries c h);
+      picture = (run_of c.params (PlayNext ∷ history_entries c h)).screen;
     }
 
 -- of a packet of it, whether it is taken and what it is answered; or a play; or what is asked for
@@ -88,13 +88,13 @@ abbrev pub said_of_packet : Bool → Outcome → List Said
 said_of_packet true outcome = OfPacket outcome ∷ []
 said_of_packet false outcome = []
 
-abbrev pub said_of_play : Config → Option Run → State → List Said
+abbrev pub said_of_play : Config → Option Run → SessionState → List Said
 said_of_play c None st = []
 said_of_play c (Some runs.Followed) st = OfPlay (play_in c st.follows.lines.followed) ∷ []
 said_of_play c (Some runs.Former) st = []
 said_of_play c (Some runs.Tried) st = []
 
-abbrev pub said_with : Config → ℕ → Entry → State → List Said
+abbrev pub said_with : Config → ℕ → SessionEntry → SessionState → List Said
 said_with c source (Datagram bytes now) st =
     said_of_packet (is_from source (seen_in c.params bytes)) (outcome_of c bytes now st)
 said_with c source (DatagramOf only bytes now) st =
@@ -106,10 +106,10 @@ said_with c source (Anew now) st = []
 
 -- All that is said of packets of this stream, of plays of the stream that is followed, and of its
 -- packets that are asked for, with these entries after those before.
-abbrev pub said_of : Config → ℕ → List Entry → List Entry → List Said
-said_of c source before [] = []
-said_of c source before (e ∷ es) =
-    said_with c source e (session_run c (es ++ before)) ++ said_of c source before es
+abbrev pub said_of_stream : Config → ℕ → List SessionEntry → List SessionEntry → List Said
+said_of_stream c source before [] = []
+said_of_stream c source before (e ∷ es) =
+    said_with c source e (session_run c (es ++ before)) ++ said_of_stream c source before es
 
 -- what there is of the stream that is followed: itself, what came of it, its packets that were asked
 -- for, and the marks that were counted
@@ -121,7 +121,7 @@ pub record Followed : Type 0 where
   pub patched : ℕ
   pub held : ℕ
 
-abbrev pub followed_in : State → Followed
+abbrev pub followed_in : SessionState → Followed
 followed_in st =
     record {
       stream = st.follows.streams.followed;
@@ -147,13 +147,13 @@ is_behind (Some g) (Some f) = nat_lt g.pictures f.pictures
 
 -- When it comes, a picture of the stream that is followed was complete less than half a second ago.
 -- Where it is of the former stream, that has had fewer complete pictures.
-pub record IsBeside (seen : Result Seen Cause) (now : ℕ) (followed former : Option Stream) : Type 0 where
+pub record ComesBeside (seen : Result Seen Cause) (now : ℕ) (followed former : Option Stream) : Type 0 where
   pub live : is_live_one followed now ≡ true
   pub behind : is_of_former former seen ≡ true → is_behind former followed ≡ true
 
 -- So it is whenever a packet of another stream comes: the followed stream as its own packets alone
 -- have it. The call doesn't begin anew.
-abbrev pub StaysLive : Config → ℕ → List Entry → List Entry → Type 0
+abbrev pub StaysLive : Config → ℕ → List SessionEntry → List SessionEntry → Type 0
 StaysLive c source before [] = Unit {0}
 StaysLive c source before (Turn now ∷ es) = StaysLive c source before es
 StaysLive c source before (Asked round_trip now ∷ es) = StaysLive c source before es
@@ -161,13 +161,13 @@ StaysLive c source before (Ended other now ∷ es) = StaysLive c source before e
 StaysLive c source before (Anew now ∷ es) = ⊥
 StaysLive c source before (DatagramOf only bytes now ∷ es) =
     (is_from_other source (seen_of_one c only bytes) ≡ true
-    → IsBeside (seen_of_one c only bytes) now
+    → ComesBeside (seen_of_one c only bytes) now
     (session_run c (own_of c source es ++ before)).follows.streams.followed
     (session_run c (es ++ before)).follows.streams.former)
     × StaysLive c source before es
 StaysLive c source before (Datagram bytes now ∷ es) =
     (is_from_other source (seen_in c.params bytes) ≡ true
-    → IsBeside (seen_in c.params bytes) now
+    → ComesBeside (seen_in c.params bytes) now
     (session_run c (own_of c source es ++ before)).follows.streams.followed
     (session_run c (es ++ before)).follows.streams.former)
     × StaysLive c source before es
@@ -177,10 +177,10 @@ StaysLive c source before (Datagram bytes now ∷ es) =
 -- it.
 abbrev pub Undisturbed : Type 0
 Undisturbed =
-    (c : Config) (source : ℕ) (before es : List Entry)
+    (c : Config) (source : ℕ) (before es : List SessionEntry)
     → is_of (session_run c before).follows.streams.followed source ≡ true
     → InOrder (es ++ before) → StaysLive c source before es
-    → (said_of c source before es ≡ said_of c source before (own_of c source es))
+    → (said_of_stream c source before es ≡ said_of_stream c source before (own_of c source es))
     × (followed_in (session_run c (es ++ before)) ≡ followed_in (session_run c (own_of c source es ++ before)))
     × (is_of (session_run c (es ++ before)).follows.streams.followed source ≡ true)
 
@@ -188,7 +188,7 @@ Undisturbed =
 
 -- whenever a packet of another stream comes, a picture of the stream was complete less than half a
 -- second ago, as its own packets alone have it; and the call doesn't begin anew
-abbrev pub IsLive : Config → ℕ → List Entry → List Entry → Type 0
+abbrev pub IsLive : Config → ℕ → List SessionEntry → List SessionEntry → Type 0
 IsLive c source before [] = Unit {0}
 IsLive c source before (Turn now ∷ es) = IsLive c source before es
 IsLive c source before (Asked round_trip now ∷ es) = IsLive c source before es
@@ -206,10 +206,10 @@ IsLive c source before (Datagram bytes now ∷ es) =
 -- Then that is all that is asked of it.
 abbrev pub UndisturbedFirst : Type 0
 UndisturbedFirst =
-    (c : Config) (source : ℕ) (before es : List Entry)
+    (c : Config) (source : ℕ) (before es : List SessionEntry)
     → is_of (session_run c before).follows.streams.followed source ≡ true
     → (session_run c before).follows.streams.former ≡ None
     → InOrder (es ++ before) → IsLive c source before es
-    → (said_of c source before es ≡ said_of c source before (own_of c source es))
+    → (said_of_stream c source before es ≡ said_of_stream c source before (own_of c source es))
     × (followed_in (session_run c (es ++ before)) ≡ followed_in (session_run c (own_of c source es ++ before)))
     × (is_of (session_run c (es ++ before)).follows.streams.followed source ≡ true)

@@ -1,7 +1,7 @@
 //! Laws of sessions, over the definitions alone.
 ghost use Rattle.session_laws.specs.AskingAgain.{AskedByName, AskedInTime, AskedTwice};
-ghost use Rattle.session_laws.specs.Bounded.{FewAreTaken, NeverAhead, PlaysAreDue, PlaysWait};
-ghost use Rattle.session_laws.specs.InTime.{GivenInTime, InTime, OfOneSender};
+ghost use Rattle.session_laws.specs.Bounded.{FewAreTaken, NeverAhead, PlaysAreDue, RunsWait};
+ghost use Rattle.session_laws.specs.InTime.{GivenInTime, RunsAreInTime, OfOneSender};
 ghost use Rattle.session_laws.specs.Recovering.{DueAgain, EachCounts, FollowedAgain};
 ghost use Rattle.session_laws.specs.Recovering.{HeardAgain, NeverShutOut};
 ghost use Rattle.session_laws.specs.Undisturbed.{Undisturbed, UndisturbedFirst};
@@ -41,7 +41,7 @@ pub fn plays_are_due()
 /// none takes longer than the shortest way and the wait, and none that came is more than the lead
 /// after it. Not said: that they are heard, which needs their numbers to be right.
 pub fn plays_wait()
-    ensures { PlaysWait }
+    ensures { RunsWait }
 {
     playout_times::laws::in_time();
 }
@@ -98,7 +98,7 @@ pub fn given_in_time()
 /// open is marked exact, and is the sender's. Not said: anything of a run that took other packets too:
 /// of pictures whose references came before it began, or forged ones with the stream's SSRC.
 pub fn in_time()
-    ensures given { InTime }
+    ensures given { RunsAreInTime }
     ensures sender { OfOneSender }
 {
     is_decoding();

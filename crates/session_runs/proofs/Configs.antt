@@ -6,7 +6,7 @@ use Rattle.session_intake.specs.declared.settings.Settings.{Settings}
 use Rattle.session_runs.specs.declared.kept.KeptRun.{KeptRun}
 use Rattle.session_runs.specs.declared.three.ThreeRuns.{ThreeRuns}
 use Rattle.session_runs.specs.Histories.{Config}
-use Rattle.session_runs.specs.Kept.{IsKept}
+use Rattle.session_runs.specs.Kept.{IsKeptRun}
 use Rattle.session_runs.specs.Three.{AreKept}
 
 abbrev pub made : Params → Rate → ℕ → ℕ → Config
@@ -17,7 +17,7 @@ same p q r t l m w v a b c d =
     ap (λ (x : Params). made x r l w) a ∙ ap (λ (x : Rate). made q x l w) b
     ∙ ap (λ (x : ℕ). made q t x w) c ∙ ap (λ (x : ℕ). made q t m x) d
 
-pub later : (s : Settings) (n m : ℕ) (k : KeptRun) → n ≤ m → IsKept s n k → IsKept s m k
+pub later : (s : Settings) (n m : ℕ) (k : KeptRun) → n ≤ m → IsKeptRun s n k → IsKeptRun s m k
 later s n m k i x =
     let j = x.last in
     let l : k.run.timed.times.last ≤ m = omega arith in

@@ -4,11 +4,11 @@ use Rattle.std.specs.Prelude.{is_some, if◌then◌else◌}
 use Rattle.receiver_end.specs.declared.answers.Played.{Played}
 use Rattle.stream_choice.specs.declared.streams.Run.{Run}
 use Rattle.stream_choice.specs.declared.streams.Run.TheVariants as runs
-use Rattle.stream_choice.specs.Choice.{source_in}
+use Rattle.stream_choice.specs.Choice.{run_source}
 use Rattle.session_runs.specs.declared.three.ThreeRuns.{ThreeRuns}
-use Rattle.session_runs.specs.Histories.{Config, after_play, after_play_if, is_due_in}
+use Rattle.session_runs.specs.Histories.{Config, history_after_play, after_play_if, is_due_in}
 use Rattle.session_runs.specs.Kept.{ArePlays}
-use Rattle.session_runs.specs.Lines.{line_of, with_line}
+use Rattle.session_runs.specs.Lines.{line_of, lines_with}
 use Rattle.session_runs.specs.Three.{LinesStand}
 use Rattle.session_runs.specs.Following.{Follows, is_run_due, run_due}
 use Rattle.session_runs.specs.Followed.{ArePlayed}
@@ -38,7 +38,7 @@ first false false false run e = absurd cc
 
 of_run : (c : Config) (run : Run) (now : ℕ) (f : Follows) → is_run_due c run now f ≡ true
     → is_due_in c now (line_of run f.lines) ≡ true
-of_run c run now f e = both (is_some (source_in f.streams run)) (is_due_in c now (line_of run f.lines)) e
+of_run c run now f e = both (is_some (run_source f.streams run)) (is_due_in c now (line_of run f.lines)) e
 
 is_due : (c : Config) (run : Run) (now : ℕ) (f : Follows) → run_due c now f ≡ Some run
     → is_due_in c now (line_of run f.lines) ≡ true
@@ -70,8 +70,8 @@ not_none c f run now e a =
 
 pub after : (t : ThreeRuns) (c : Config) (f : Follows) (run : Run) (now : ℕ) → Some run ≡ run_due c now f
     → LinesStand t
-    (with_line run (after_play_if c (is_due_in c now (line_of run f.lines)) now (line_of run f.lines)) f.lines)
-    → LinesStand t (with_line run (after_play c now (line_of run f.lines)) f.lines)
+    (lines_with run (after_play_if c (is_due_in c now (line_of run f.lines)) now (line_of run f.lines)) f.lines)
+    → LinesStand t (lines_with run (history_after_play c now (line_of run f.lines)) f.lines)
 after t c f run now e l =
-    subst (λ (x : Bool). LinesStand t (with_line run (after_play_if c x now (line_of run f.lines)) f.lines))
+    subst (λ (x : Bool). LinesStand t (lines_with run (after_play_if c x now (line_of run f.lines)) f.lines))
     (is_due c run now f (sym e)) l

@@ -9,9 +9,9 @@ use Rattle.session_intake.specs.declared.settings.Settings.{Settings}
 use Rattle.session_runs.specs.declared.following.Following.{Following}
 use Rattle.session_runs.specs.Histories.{Config}
 use Rattle.session_runs.specs.Lines.{begun_lines, line_of}
-use Rattle.session_runs.specs.Kept.{IsAnswer, IsPlay, config_in}
+use Rattle.session_runs.specs.Kept.{IsAnswerOf, IsPlay, config_in}
 use Rattle.session_runs.specs.Three.{LinesStand}
-use Rattle.session_runs.specs.Following.{Follows, answer_of}
+use Rattle.session_runs.specs.Following.{Follows, taker_answer}
 
 abbrev pub begun_follows : ℕ → Follows
 begun_follows now =
@@ -29,7 +29,7 @@ abbrev pub AreTaken : Settings → Taker → Option Run → Packet → List ℕ 
 AreTaken s taker None packet bytes now f taken = taken ≡ None
 AreTaken s taker (Some run) packet bytes now f taken =
     (answer : Arrived) × (taken ≡ Some (run, answer))
-    × IsAnswer s.params.clock answer (answer_of (config_in s) taker run packet bytes now f)
+    × IsAnswerOf s.params.clock answer (taker_answer (config_in s) taker run packet bytes now f)
 
 -- the run of which a picture is played, and that
 abbrev pub ArePlayed : Config → Follows → Option Run → Option (Run × Played) → Type 0

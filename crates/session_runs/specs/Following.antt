@@ -8,8 +8,8 @@ use Rattle.stream_choice.specs.Choice as choice
 use Rattle.stream_numbers.specs.declared.packet.Packet.{Packet}
 use Rattle.packet_gaps.specs.declared.gaps.Nack.{Nack}
 use Rattle.packet_gaps.specs.declared.moment.Moment.{Moment}
-use Rattle.session_runs.specs.Histories.{Answer, Config, after_nack, after_packet, after_play, answer_in, due_in, is_complete, is_due_in, moment_in, nack_at}
-use Rattle.session_runs.specs.Lines.{Lines, line_of, made_ready, run_of, turned, with_line}
+use Rattle.session_runs.specs.Histories.{Answer, Config, after_nack, history_after_packet, history_after_play, answer_in, due_in, answer_completes, is_due_in, moment_in, nack_at}
+use Rattle.session_runs.specs.Lines.{Lines, line_of, made_ready, taker_run, turned, lines_with}
 
 pub record Follows : Type 0 where
   pub streams : Streams
@@ -18,9 +18,9 @@ pub record Follows : Type 0 where
 -- ---- packets
 
 -- the streams once a packet of this SSRC came
-abbrev pub noted : ℕ → ℕ → Follows → Follows
-noted source now f =
-    record { streams = choice.after_packet f.streams source now; lines = f.lines }
+abbrev pub source_noted : ℕ → ℕ → Follows → Follows
+source_noted source now f =
+    record { streams = choice.streams_after_packet f.streams source now; lines = f.lines }
 
 -- With a complete picture its stream may come to be followed, and the runs go with their streams.
 abbrev pub completed_if : Bool → Run → ℕ → Follows → Follows
@@ -33,9 +33,9 @@ completed_if true run now f =
 
 abbrev pub after_heard : Config → Run → Packet → List ℕ → ℕ → Follows → Follows
 after_heard c run packet bytes now f =
-    completed_if (is_complete (answer_in c packet bytes now (line_of run f.lines))) run now (record {
+    completed_if (answer_completes (answer_in c packet bytes now (line_of run f.lines))) run now (record {
       streams = f.streams;
-      lines = with_line run (after_packet c packet bytes now (line_of run f.lines)) f.lines;
+      lines = lines_with run (history_after_packet c packet bytes now (line_of run f.lines)) f.lines;
     })
 
 abbrev pub after_run : Config → Option Run → Packet → List ℕ → ℕ → Follows → Follows
@@ -49,11 +49,11 @@ made_ready_for c taker reference now f =
 -- after a packet with this taker
 abbrev pub after_taker : Config → Taker → Packet → List ℕ → ℕ → Follows → Follows
 after_taker c taker packet bytes now f =
-    after_run c (run_of taker) packet bytes now (made_ready_for c taker packet.reference now f)
+    after_run c (taker_run taker) packet bytes now (made_ready_for c taker packet.reference now f)
 
 -- the answer of a run that takes it
-abbrev pub answer_of : Config → Taker → Run → Packet → List ℕ → ℕ → Follows → Answer
-answer_of c taker run packet bytes now f =
+abbrev pub taker_answer : Config → Taker → Run → Packet → List ℕ → ℕ → Follows → Answer
+taker_answer c taker run packet bytes now f =
     answer_in c packet bytes now (line_of run (made_ready c taker packet.reference now f.lines))
 
 -- ---- plays
@@ -61,7 +61,7 @@ answer_of c taker run packet bytes now f =
 -- when the next picture of a run is due, where it has a stream
 abbrev pub due_of_run : Config → Run → Follows → Option ℕ
 due_of_run c run f =
-    if is_some (choice.source_in f.streams run) then due_in c (line_of run f.lines) else None
+    if is_some (choice.run_source f.streams run) then due_in c (line_of run f.lines) else None
 
 abbrev pub earlier : Option ℕ → Option ℕ → Option ℕ
 earlier None b = b
@@ -77,7 +77,7 @@ due_next c f =
 -- a picture of this run is due by now
 abbrev pub is_run_due : Config → Run → ℕ → Follows → Bool
 is_run_due c run now f =
-    if is_some (choice.source_in f.streams run) then is_due_in c now (line_of run f.lines) else false
+    if is_some (choice.run_source f.streams run) then is_due_in c now (line_of run f.lines) else false
 
 -- the run of which one is: that of the stream that is followed comes first
 abbrev pub run_due : Config → ℕ → Follows → Option Run
@@ -92,7 +92,7 @@ after_play_of c None now f = f
 after_play_of c (Some run) now f =
     record {
       streams = f.streams;
-      lines = with_line run (after_play c now (line_of run f.lines)) f.lines;
+      lines = lines_with run (history_after_play c now (line_of run f.lines)) f.lines;
     }
 
 -- ---- asking again
@@ -100,7 +100,7 @@ after_play_of c (Some run) now f =
 -- Packets are asked for of the stream that is followed alone.
 abbrev pub moment_of : Config → ℕ → ℕ → Follows → Option Moment
 moment_of c round_trip now f =
-    if is_some (choice.source_in f.streams runs.Followed)
+    if is_some (choice.run_source f.streams runs.Followed)
     then moment_in c round_trip now f.lines.followed
     else None
 
@@ -111,7 +111,7 @@ abbrev pub after_asked : Config → ℕ → ℕ → Follows → Follows
 after_asked c round_trip now f =
     record {
       streams = f.streams;
-      lines = with_line runs.Followed (after_nack (moment_of c round_trip now f) f.lines.followed) f.lines;
+      lines = lines_with runs.Followed (after_nack (moment_of c round_trip now f) f.lines.followed) f.lines;
     }
 
 -- ---- ends

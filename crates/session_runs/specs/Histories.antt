@@ -13,7 +13,7 @@ use Rattle.timed_receiver.specs.Timed as timed
 use Rattle.packet_gaps.specs.declared.gaps.Nack.{Nack}
 use Rattle.packet_gaps.specs.declared.moment.Moment.{Moment}
 use Rattle.packet_gaps.specs.Kept as packets
-use Rattle.stream_run.specs.Entries.{Came, Entry, Shown, heard_of, timed_of}
+use Rattle.stream_run.specs.Entries.{Came, StreamEntry, Shown, heard_of, timed_of}
 use Rattle.session_runs.specs.declared.unheard.Unheard.{Unheard}
 use Rattle.session_runs.specs.Unheard.{after_heard, fresh, is_lost}
 
@@ -30,27 +30,27 @@ pub record Config : Type 0 where
 -- played, and what was asked for.
 pub record History : Type 0 where
   pub first : ℕ
-  pub past : List Entry
+  pub past : List StreamEntry
   pub until : ℕ
   pub unheard : Unheard
-  pub gaps : List packets.Event
+  pub gaps : List packets.GapEvent
 
 -- Nothing came of it but a packet, then, with this temporal reference: two pictures are open before
 -- that one, for packets out of order at the start.
-abbrev pub begun : ℕ → ℕ → History
-begun reference now =
+abbrev pub history_begun : ℕ → ℕ → History
+history_begun reference now =
     record { first = reference - 2; past = []; until = 0; unheard = fresh now; gaps = [] }
 
 abbrev pub timed_in : Config → History → List timed.Entry
 timed_in c h = timed_of c.rate h.first c.lead h.past
 
 -- what its receiver was given
-abbrev pub entries_in : Config → History → List ReceiverEntry
-entries_in c h = timed.entries_of h.first (timed_in c h)
+abbrev pub history_entries : Config → History → List ReceiverEntry
+history_entries c h = timed.entries_of h.first (timed_in c h)
 
 -- the number of its next picture
-abbrev pub next_in : Config → History → ℕ
-next_in c h = timed.next_after h.first (timed_in c h)
+abbrev pub next_number_in : Config → History → ℕ
+next_number_in c h = timed.next_number_after h.first (timed_in c h)
 
 -- ---- packets
 
@@ -65,8 +65,8 @@ pub data Answer : Type 0 where
 abbrev pub answer_at : Params → ℕ → ℕ → List timed.Entry → Option Place → List ℕ → Answer
 answer_at p first lead past None bytes = NoPlace
 answer_at p first lead past (Some place) bytes =
-    if nat_lt (timed.next_after first past + lead) place.number then Ahead place.number
-    else if nat_lt place.number (timed.next_after first past) then IsHeard Late
+    if nat_lt (timed.next_number_after first past + lead) place.number then Ahead place.number
+    else if nat_lt place.number (timed.next_number_after first past) then IsHeard Late
     else IsHeard (answer_after p (timed.entries_of first past) bytes)
 
 abbrev pub answer_in : Config → Packet → List ℕ → ℕ → History → Answer
@@ -74,9 +74,9 @@ answer_in c packet bytes now h =
     answer_at c.params h.first c.lead (timed_in c h) (place_of c.rate (heard_of h.past) packet now) bytes
 
 -- with it its picture is complete
-abbrev pub is_complete : Answer → Bool
-is_complete (IsHeard (Completed message)) = true
-is_complete _ = false
+abbrev pub answer_completes : Answer → Bool
+answer_completes (IsHeard (Completed message)) = true
+answer_completes _ = false
 
 -- its picture was not played, and has a place
 abbrev pub is_heard : Answer → Bool
@@ -93,7 +93,7 @@ until_after (IsHeard heard) lead until = until
 
 -- A packet with this place, this sequence number and this answer counts as come where it is heard,
 -- also where it is late.
-abbrev pub gaps_after : Answer → Option Place → ℕ → List packets.Event → List packets.Event
+abbrev pub gaps_after : Answer → Option Place → ℕ → List packets.GapEvent → List packets.GapEvent
 gaps_after NoPlace place sequence past = past
 gaps_after (Ahead number) place sequence past = past
 gaps_after (IsHeard heard) None sequence past = past
@@ -102,10 +102,10 @@ gaps_after (IsHeard heard) (Some place) sequence past = packets.Came sequence pl
 -- A run begins anew where its packets would never be heard again, and where all 2^20 pictures that
 -- there can be were played.
 abbrev pub must_begin : Config → ℕ → History → Bool
-must_begin c now h = if nat_le 1048576 (next_in c h) then true else is_lost now h.unheard
+must_begin c now h = if nat_le 1048576 (next_number_in c h) then true else is_lost now h.unheard
 
 abbrev pub ready : Config → ℕ → ℕ → History → History
-ready c reference now h = if must_begin c now h then begun reference now else h
+ready c reference now h = if must_begin c now h then history_begun reference now else h
 
 abbrev pub after_answer : Config → Answer → Packet → List ℕ → ℕ → History → History
 after_answer c answer packet bytes now h =
@@ -118,27 +118,27 @@ after_answer c answer packet bytes now h =
     }
 
 -- after a packet of it
-abbrev pub after_packet : Config → Packet → List ℕ → ℕ → History → History
-after_packet c packet bytes now h = after_answer c (answer_in c packet bytes now h) packet bytes now h
+abbrev pub history_after_packet : Config → Packet → List ℕ → ℕ → History → History
+history_after_packet c packet bytes now h = after_answer c (answer_in c packet bytes now h) packet bytes now h
 
 -- ---- plays
 
 -- when its next picture is due, as far as that is known
 abbrev pub due_in : Config → History → Option ℕ
 due_in c h =
-    if nat_le 1048576 (next_in c h) then None
-    else if nat_lt (next_in c h) h.until then Some 0
-    else due_of c.wait (next_in c h) (timed.arrivals_of (timed_in c h))
+    if nat_le 1048576 (next_number_in c h) then None
+    else if nat_lt (next_number_in c h) h.until then Some 0
+    else due_of c.wait (next_number_in c h) (timed.arrivals_of (timed_in c h))
 
 -- after a play of its next picture
-abbrev pub after_play : Config → ℕ → History → History
-after_play c now h =
+abbrev pub history_after_play : Config → ℕ → History → History
+history_after_play c now h =
     record {
       first = h.first;
       past = Shown now ∷ h.past;
       until = h.until;
       unheard = h.unheard;
-      gaps = packets.Played (next_in c h + 1) ∷ h.gaps;
+      gaps = packets.Played (next_number_in c h + 1) ∷ h.gaps;
     }
 
 -- it is due by now
@@ -148,7 +148,7 @@ is_due_in c now h = is_due_by now (due_in c h)
 -- after a play of its next picture, if that is due
 abbrev pub after_play_if : Config → Bool → ℕ → History → History
 after_play_if c false now h = h
-after_play_if c true now h = after_play c now h
+after_play_if c true now h = history_after_play c now h
 
 -- ---- asking again
 
@@ -172,7 +172,7 @@ moment_at c round_trip now next (Some due) =
     })
 
 abbrev pub moment_in : Config → ℕ → ℕ → History → Option Moment
-moment_in c round_trip now h = moment_at c round_trip now (next_in c h) (due_in c h)
+moment_in c round_trip now h = moment_at c round_trip now (next_number_in c h) (due_in c h)
 
 -- the next packets of it that are asked for at this moment, if there is one
 abbrev pub nack_at : Option Moment → History → Option Nack

@@ -8,11 +8,11 @@ use Rattle.receiver_end.specs.declared.answers.Heard.{Heard}
 use Rattle.stream_run.specs.declared.run.StreamRun.{StreamRun}
 use Rattle.stream_run.specs.declared.run.Arrived.{Arrived}
 use Rattle.stream_run.specs.declared.run.Arrived.TheVariants as arriveds
-use Rattle.stream_run.specs.Kept.{IsRun, RunStands}
+use Rattle.stream_run.specs.Kept.{IsStreamRun, RunStands}
 use Rattle.packet_gaps.specs.Kept.{GapsStand}
 use Rattle.session_intake.specs.declared.settings.Settings.{Settings}
 use Rattle.session_runs.specs.declared.kept.KeptRun.{KeptRun}
-use Rattle.session_runs.specs.Histories.{Ahead, Answer, Config, History, IsHeard, NoPlace, entries_in, next_in}
+use Rattle.session_runs.specs.Histories.{Ahead, Answer, Config, History, IsHeard, NoPlace, history_entries, next_number_in}
 
 abbrev pub config_of : StreamRun → Config
 config_of r =
@@ -27,8 +27,8 @@ abbrev pub config_in : Settings → Config
 config_in s = record { params = s.params; rate = s.rate; lead = s.params.lead; wait = s.wait }
 
 -- it is a run with these settings, and nothing of it is later than now
-pub record IsKept (s : Settings) (now : ℕ) (k : KeptRun) : Type 0 where
-  pub run : IsRun k.run
+pub record IsKeptRun (s : Settings) (now : ℕ) (k : KeptRun) : Type 0 where
+  pub run : IsStreamRun k.run
   pub config : config_of k.run ≡ config_in s
   pub last : k.run.timed.times.last ≤ now
   pub few : k.run.timed.times.next ≤ 1048576
@@ -41,17 +41,17 @@ pub record HistoryStands (k : KeptRun) (h : History) : Type 0 where
   pub gaps : GapsStand k.gaps h.gaps
 
 -- the answer of a run is this one
-abbrev pub IsAnswer : Clock → Arrived → Answer → Type 0
-IsAnswer clock answer NoPlace = answer ≡ arriveds.NoPlace
-IsAnswer clock answer (Ahead number) = answer ≡ arriveds.Ahead number
-IsAnswer clock answer (IsHeard heard) =
+abbrev pub IsAnswerOf : Clock → Arrived → Answer → Type 0
+IsAnswerOf clock answer NoPlace = answer ≡ arriveds.NoPlace
+IsAnswerOf clock answer (Ahead number) = answer ≡ arriveds.Ahead number
+IsAnswerOf clock answer (IsHeard heard) =
     (h : Heard) × (answer ≡ arriveds.Heard h) × receiver_end.IsHeard clock h heard
 
 -- it is the play of the next picture: its number, its mark and its message
 pub record IsPlay (c : Config) (h : History) (played : Played) : Type 0 where
-  pub number : played.number ≡ next_in c h
-  pub told : receiver_end.IsPlayed c.params.clock played (mark_after c.params (entries_in c h))
-      (message_after c.params (entries_in c h))
+  pub number : played.number ≡ next_number_in c h
+  pub told : receiver_end.IsPlayed c.params.clock played (mark_after c.params (history_entries c h))
+      (message_after c.params (history_entries c h))
 
 -- there is one where it is due
 abbrev pub ArePlays : Config → History → Bool → Option Played → Type 0

@@ -2,14 +2,14 @@
 use Rattle.std.specs.Prelude.{ℕ, ◌≤◌}
 use Rattle.session_intake.specs.declared.settings.Settings.{Settings}
 use Rattle.session_runs.specs.declared.three.ThreeRuns.{ThreeRuns}
-use Rattle.session_runs.specs.Kept.{HistoryStands, IsKept}
+use Rattle.session_runs.specs.Kept.{HistoryStands, IsKeptRun}
 use Rattle.session_runs.specs.Lines.{Lines}
 
 -- all have these settings, and nothing of them is later than now
 pub record AreKept (s : Settings) (now : ℕ) (t : ThreeRuns) : Type 0 where
-  pub followed : IsKept s now t.followed
-  pub former : IsKept s now t.former
-  pub tried : IsKept s now t.tried
+  pub followed : IsKeptRun s now t.followed
+  pub former : IsKeptRun s now t.former
+  pub tried : IsKeptRun s now t.tried
 
 -- this came of their streams
 pub record LinesStand (t : ThreeRuns) (l : Lines) : Type 0 where

@@ -3,15 +3,15 @@ ghost use Rattle.std.specs.Prelude.{◌≡◌, ◌<◌, ◌≤◌, ◌^◌, ℕ,
 ghost use Rattle.h263_planes.specs.Lent.{picture};
 ghost use Rattle.h263_planes.specs.Samples.{IsPicture};
 ghost use Rattle.receiver_end.specs.State.{run_of as receivers_run};
-ghost use Rattle.stream_choice.specs.Choice.{is_live_one, source_in, taker_of};
+ghost use Rattle.stream_choice.specs.Choice.{is_live_one, run_source, taker_of};
 ghost use Rattle.session_intake.specs.Settings.{IsSettings};
-ghost use Rattle.session_runs.specs.Histories.{answer_in, entries_in};
-ghost use Rattle.session_runs.specs.Lines.{Lines, begun_lines, line_of, run_of};
-ghost use Rattle.session_runs.specs.Kept.{IsAnswer, config_in};
+ghost use Rattle.session_runs.specs.Histories.{answer_in, history_entries};
+ghost use Rattle.session_runs.specs.Lines.{Lines, begun_lines, line_of, taker_run};
+ghost use Rattle.session_runs.specs.Kept.{IsAnswerOf, config_in};
 ghost use Rattle.session_runs.specs.Three.{AreKept};
 ghost use Rattle.session_runs.specs.Following.{Follows, after_asked, after_bye, after_heard, after_play_of};
 ghost use Rattle.session_runs.specs.Following.{after_run, after_taker, nack_of_followed};
-ghost use Rattle.session_runs.specs.Following.{due_next, due_of_run, earlier, is_run_due, noted, run_due};
+ghost use Rattle.session_runs.specs.Following.{due_next, due_of_run, earlier, is_run_due, source_noted, run_due};
 ghost use Rattle.session_runs.specs.Followed.{ArePlayed, AreTaken, FollowsStand, begun_follows};
 
 use crate::answers;
@@ -34,7 +34,7 @@ pub struct Following {
 
 // The run that takes a packet, if there is one.
 fn run_of(taker: Taker) -> Option<Run>
-    ensures { result ≡ run_of taker }
+    ensures { result ≡ taker_run taker }
 {
     match taker {
         Taker::Followed => Some(Run::Followed),
@@ -84,7 +84,7 @@ impl Following {
     pub fn note(&mut self, source: u32, now: u64)
         ensures runs { self.new.runs ≡ self.old.runs }
         ensures stands { (f : Follows) → FollowsStand self.old f
-            → FollowsStand self.new (noted source now f) }
+            → FollowsStand self.new (source_noted source now f) }
     {
         self.streams.packet(source, now);
     }
@@ -98,7 +98,7 @@ impl Following {
 
     /// The SSRC of the stream of this run, if it has one.
     pub fn source(&self, run: Run) -> Option<u32>
-        ensures { result ≡ source_in self.now.streams run }
+        ensures { result ≡ run_source self.now.streams run }
     {
         self.streams.source(run)
     }
@@ -116,7 +116,7 @@ impl Following {
         requires now { now < 2 ^ 62 }
         requires kept { AreKept settings.now now self.old.runs }
         ensures kept { AreKept settings.now now self.new.runs }
-        ensures answer { (f : Follows) → FollowsStand self.old f → IsAnswer settings.now.params.clock
+        ensures answer { (f : Follows) → FollowsStand self.old f → IsAnswerOf settings.now.params.clock
             result (answer_in (config_in settings.now) packet.now bytes.now now (line_of run f.lines)) }
         ensures stands { (f : Follows) → FollowsStand self.old f → FollowsStand self.new
             (after_heard (config_in settings.now) run packet.now bytes.now now f) }
@@ -145,7 +145,7 @@ impl Following {
         requires kept { AreKept settings.now now self.old.runs }
         ensures kept { AreKept settings.now now self.new.runs }
         ensures answer { (f : Follows) → FollowsStand self.old f → AreTaken settings.now taker
-            (run_of taker) packet.now bytes.now now f result }
+            (taker_run taker) packet.now bytes.now now f result }
         ensures stands { (f : Follows) → FollowsStand self.old f → FollowsStand self.new
             (after_taker (config_in settings.now) taker packet.now bytes.now now f) }
     {
@@ -266,7 +266,7 @@ impl Following {
     pub fn shown(&self) -> PictureRef<'_>
         ensures run { (s : Settings) (now : ℕ) (f : Follows) → AreKept s now self.now.runs
             → FollowsStand self.now f → picture result
-            ≡ (receivers_run s.params (entries_in (config_in s) f.lines.followed)).screen }
+            ≡ (receivers_run s.params (history_entries (config_in s) f.lines.followed)).screen }
         ensures whole { IsPicture (picture result) }
     {
         self.runs.shown()

@@ -4,10 +4,10 @@ ghost use Rattle.h263_planes.specs.Lent.{picture};
 ghost use Rattle.h263_planes.specs.Samples.{IsPicture};
 ghost use Rattle.receiver_end.specs.State.{run_of};
 ghost use Rattle.session_intake.specs.Settings.{IsSettings};
-ghost use Rattle.session_runs.specs.Histories.{History, after_packet, after_play, answer_in, begun};
-ghost use Rattle.session_runs.specs.Histories.{after_play_if, due_in, entries_in, is_due_in};
+ghost use Rattle.session_runs.specs.Histories.{History, history_after_packet, history_after_play, answer_in, history_begun};
+ghost use Rattle.session_runs.specs.Histories.{after_play_if, due_in, history_entries, is_due_in};
 ghost use Rattle.session_runs.specs.Histories.{after_nack, moment_in, must_begin, nack_at, ready};
-ghost use Rattle.session_runs.specs.Kept.{ArePlays, HistoryStands, IsAnswer, IsKept, IsPlay, config_in};
+ghost use Rattle.session_runs.specs.Kept.{ArePlays, HistoryStands, IsAnswerOf, IsKeptRun, IsPlay, config_in};
 
 use crate::unheard::Unheard;
 use crate::{answers, repair};
@@ -36,8 +36,8 @@ impl KeptRun {
     /// Nothing came. All memory is taken here.
     pub fn start(alloc: Global, settings: &Settings) -> Result<KeptRun, OutOfMemory>
         requires { IsSettings settings.now }
-        ensures kept { IfOk result (IsKept settings.now 0) }
-        ensures stands { IfOk result (λ k. HistoryStands k (begun 0 0)) }
+        ensures kept { IfOk result (IsKeptRun settings.now 0) }
+        ensures stands { IfOk result (λ k. HistoryStands k (history_begun 0 0)) }
     {
         let run = StreamRun::start(alloc, &settings.params, settings.rate, settings.wait)?;
         Ok(KeptRun {
@@ -52,9 +52,9 @@ impl KeptRun {
     pub fn begin(&mut self, settings: &Settings, reference: u32, now: u64)
         requires settings { IsSettings settings.now }
         requires reference { reference < 1024 }
-        requires kept { IsKept settings.now now self.old }
-        ensures kept { IsKept settings.now now self.new }
-        ensures stands { HistoryStands self.new (begun reference now) }
+        requires kept { IsKeptRun settings.now now self.old }
+        ensures kept { IsKeptRun settings.now now self.new }
+        ensures stands { HistoryStands self.new (history_begun reference now) }
     {
         self.run.begin(reference, settings.rate, settings.wait);
         self.until = 0;
@@ -64,7 +64,7 @@ impl KeptRun {
 
     // Whether it begins anew at its next packet.
     fn must_begin(&self, now: u64) -> bool
-        ensures { (s : Settings) (h : History) → IsKept s now self.now → HistoryStands self.now h
+        ensures { (s : Settings) (h : History) → IsKeptRun s now self.now → HistoryStands self.now h
             → result ≡ must_begin (config_in s) now h }
     {
         if self.run.next() >= PICTURES {
@@ -77,8 +77,8 @@ impl KeptRun {
     pub fn make_ready(&mut self, settings: &Settings, reference: u32, now: u64)
         requires settings { IsSettings settings.now }
         requires reference { reference < 1024 }
-        requires kept { IsKept settings.now now self.old }
-        ensures kept { IsKept settings.now now self.new }
+        requires kept { IsKeptRun settings.now now self.old }
+        ensures kept { IsKeptRun settings.now now self.new }
         ensures stands { (h : History) → HistoryStands self.old h
             → HistoryStands self.new (ready (config_in settings.now) reference now h) }
     {
@@ -97,12 +97,12 @@ impl KeptRun {
     ) -> Arrived
         requires reference { packet.now.reference < settings.now.rate.period }
         requires now { now < 2 ^ 62 }
-        requires kept { IsKept settings.now now self.old }
-        ensures kept { IsKept settings.now now self.new }
-        ensures answer { (h : History) → HistoryStands self.old h → IsAnswer settings.now.params.clock
+        requires kept { IsKeptRun settings.now now self.old }
+        ensures kept { IsKeptRun settings.now now self.new }
+        ensures answer { (h : History) → HistoryStands self.old h → IsAnswerOf settings.now.params.clock
             result (answer_in (config_in settings.now) packet.now bytes.now now h) }
         ensures stands { (h : History) → HistoryStands self.old h → HistoryStands self.new
-            (after_packet (config_in settings.now) packet.now bytes.now now h) }
+            (history_after_packet (config_in settings.now) packet.now bytes.now now h) }
     {
         let place = self.run.place(packet, now);
         let answer = self.run.arrival(packet, bytes, now);
@@ -114,7 +114,7 @@ impl KeptRun {
 
     /// When the next picture is due, as far as that is known: 0 where it is due at once.
     pub fn due(&self) -> Option<u64>
-        ensures exact { (s : Settings) (now : ℕ) (h : History) → IsKept s now self.now
+        ensures exact { (s : Settings) (now : ℕ) (h : History) → IsKeptRun s now self.now
             → HistoryStands self.now h → result ≡ due_in (config_in s) h }
         ensures few { IfSome result (λ time. self.now.run.timed.times.next < 2 ^ 20) }
     {
@@ -131,12 +131,12 @@ impl KeptRun {
     // Plays the next picture.
     fn play(&mut self, settings: &Settings, now: u64) -> Played
         requires few { self.old.run.timed.times.next < 2 ^ 20 }
-        requires kept { IsKept settings.now now self.old }
-        ensures kept { IsKept settings.now now self.new }
+        requires kept { IsKeptRun settings.now now self.old }
+        ensures kept { IsKeptRun settings.now now self.new }
         ensures told { (h : History) → HistoryStands self.old h
             → IsPlay (config_in settings.now) h result }
         ensures stands { (h : History) → HistoryStands self.old h
-            → HistoryStands self.new (after_play (config_in settings.now) now h) }
+            → HistoryStands self.new (history_after_play (config_in settings.now) now h) }
     {
         let played = self.run.play();
         self.gaps.played(self.run.next());
@@ -145,8 +145,8 @@ impl KeptRun {
 
     /// Plays the next picture if it is due by now. It is on the screen then.
     pub fn play_due(&mut self, settings: &Settings, now: u64) -> Option<Played>
-        requires kept { IsKept settings.now now self.old }
-        ensures kept { IsKept settings.now now self.new }
+        requires kept { IsKeptRun settings.now now self.old }
+        ensures kept { IsKeptRun settings.now now self.new }
         ensures told { (h : History) → HistoryStands self.old h
             → ArePlays (config_in settings.now) h (is_due_in (config_in settings.now) now h) result }
         ensures stands { (h : History) → HistoryStands self.old h → HistoryStands self.new
@@ -165,7 +165,7 @@ impl KeptRun {
     // is due, or where it is due at once.
     fn moment(&self, settings: &Settings, round_trip: u64, now: u64) -> Option<Moment>
         requires settings { IsSettings settings.now }
-        requires kept { IsKept settings.now now self.now }
+        requires kept { IsKeptRun settings.now now self.now }
         ensures { (h : History) → HistoryStands self.now h
             → result ≡ moment_in (config_in settings.now) round_trip now h }
     {
@@ -187,8 +187,8 @@ impl KeptRun {
     /// The next packets of it to ask for, if there are any that can come in time.
     pub fn missing(&mut self, settings: &Settings, round_trip: u64, now: u64) -> Option<Nack>
         requires settings { IsSettings settings.now }
-        requires kept { IsKept settings.now now self.old }
-        ensures kept { IsKept settings.now now self.new }
+        requires kept { IsKeptRun settings.now now self.old }
+        ensures kept { IsKeptRun settings.now now self.new }
         ensures answer { (h : History) → HistoryStands self.old h
             → result ≡ nack_at (moment_in (config_in settings.now) round_trip now h) h }
         ensures stands { (h : History) → HistoryStands self.old h → HistoryStands self.new
@@ -202,9 +202,9 @@ impl KeptRun {
 
     /// The picture on its screen.
     pub fn shown(&self) -> PictureRef<'_>
-        ensures run { (s : Settings) (now : ℕ) (h : History) → IsKept s now self.now
+        ensures run { (s : Settings) (now : ℕ) (h : History) → IsKeptRun s now self.now
             → HistoryStands self.now h
-            → picture result ≡ (run_of s.params (entries_in (config_in s) h)).screen }
+            → picture result ≡ (run_of s.params (history_entries (config_in s) h)).screen }
         ensures whole { IsPicture (picture result) }
     {
         self.run.shown()

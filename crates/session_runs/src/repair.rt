@@ -2,9 +2,9 @@
 ghost use Rattle.std.specs.Prelude.{◌≡◌, List};
 ghost use Rattle.h263_types.specs.declared.clock.Clock.{Clock};
 ghost use Rattle.stream_numbers.specs.Placing.{IsRate};
-ghost use Rattle.packet_gaps.specs.Kept.{Event, GapsStand};
+ghost use Rattle.packet_gaps.specs.Kept.{GapEvent, GapsStand};
 ghost use Rattle.session_runs.specs.Histories.{Answer, gaps_after, picture_period};
-ghost use Rattle.session_runs.specs.Kept.{IsAnswer};
+ghost use Rattle.session_runs.specs.Kept.{IsAnswerOf};
 
 use packet_gaps::Gaps;
 use stream_numbers::{Place, Rate};
@@ -15,7 +15,7 @@ const SECOND: u64 = 1_000_000_000;
 /// A packet with this sequence number, this place and this answer came: one that is heard counts as
 /// come, also where it is late.
 pub fn note(gaps: &mut Gaps, sequence: u16, place: Option<Place>, answer: &Arrived)
-    ensures { (clock : Clock) (a : Answer) (past : List Event) → IsAnswer clock answer.now a
+    ensures { (clock : Clock) (a : Answer) (past : List GapEvent) → IsAnswerOf clock answer.now a
         → GapsStand gaps.old past → GapsStand gaps.new (gaps_after a place sequence past) }
 {
     match answer {

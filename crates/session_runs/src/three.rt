@@ -5,10 +5,10 @@ ghost use Rattle.h263_planes.specs.Samples.{IsPicture};
 ghost use Rattle.receiver_end.specs.State.{run_of};
 ghost use Rattle.stream_choice.specs.declared.streams.Taker.{Taker};
 ghost use Rattle.session_intake.specs.Settings.{IsSettings};
-ghost use Rattle.session_runs.specs.Histories.{after_packet, after_play_if, answer_in, due_in};
-ghost use Rattle.session_runs.specs.Histories.{after_nack, entries_in, is_due_in, moment_in, nack_at};
-ghost use Rattle.session_runs.specs.Lines.{Lines, begun_lines, line_of, made_ready, turned, with_line};
-ghost use Rattle.session_runs.specs.Kept.{ArePlays, IsAnswer, config_in};
+ghost use Rattle.session_runs.specs.Histories.{history_after_packet, after_play_if, answer_in, due_in};
+ghost use Rattle.session_runs.specs.Histories.{after_nack, history_entries, is_due_in, moment_in, nack_at};
+ghost use Rattle.session_runs.specs.Lines.{Lines, begun_lines, line_of, made_ready, turned, lines_with};
+ghost use Rattle.session_runs.specs.Kept.{ArePlays, IsAnswerOf, config_in};
 ghost use Rattle.session_runs.specs.Three.{AreKept, LinesStand};
 
 use crate::kept::KeptRun;
@@ -92,10 +92,10 @@ impl ThreeRuns {
         requires now { now < 2 ^ 62 }
         requires kept { AreKept settings.now now self.old }
         ensures kept { AreKept settings.now now self.new }
-        ensures answer { (l : Lines) → LinesStand self.old l → IsAnswer settings.now.params.clock
+        ensures answer { (l : Lines) → LinesStand self.old l → IsAnswerOf settings.now.params.clock
             result (answer_in (config_in settings.now) packet.now bytes.now now (line_of run l)) }
-        ensures stands { (l : Lines) → LinesStand self.old l → LinesStand self.new (with_line run
-            (after_packet (config_in settings.now) packet.now bytes.now now (line_of run l)) l) }
+        ensures stands { (l : Lines) → LinesStand self.old l → LinesStand self.new (lines_with run
+            (history_after_packet (config_in settings.now) packet.now bytes.now now (line_of run l)) l) }
     {
         match run {
             Run::Followed => self.followed.arrival(settings, packet, bytes, now),
@@ -138,7 +138,7 @@ impl ThreeRuns {
         ensures kept { AreKept settings.now now self.new }
         ensures told { (l : Lines) → LinesStand self.old l → ArePlays (config_in settings.now)
             (line_of run l) (is_due_in (config_in settings.now) now (line_of run l)) result }
-        ensures stands { (l : Lines) → LinesStand self.old l → LinesStand self.new (with_line run
+        ensures stands { (l : Lines) → LinesStand self.old l → LinesStand self.new (lines_with run
             (after_play_if (config_in settings.now)
             (is_due_in (config_in settings.now) now (line_of run l)) now (line_of run l)) l) }
     {
@@ -156,7 +156,7 @@ impl ThreeRuns {
         ensures kept { AreKept settings.now now self.new }
         ensures answer { (l : Lines) → LinesStand self.old l → result
             ≡ nack_at (moment_in (config_in settings.now) round_trip now l.followed) l.followed }
-        ensures stands { (l : Lines) → LinesStand self.old l → LinesStand self.new (with_line Run.Followed
+        ensures stands { (l : Lines) → LinesStand self.old l → LinesStand self.new (lines_with Run.Followed
             (after_nack (moment_in (config_in settings.now) round_trip now l.followed) l.followed) l) }
     {
         self.followed.missing(settings, round_trip, now)
@@ -178,7 +178,7 @@ impl ThreeRuns {
     pub fn shown(&self) -> PictureRef<'_>
         ensures run { (s : Settings) (now : ℕ) (l : Lines) → AreKept s now self.now
             → LinesStand self.now l
-            → picture result ≡ (run_of s.params (entries_in (config_in s) l.followed)).screen }
+            → picture result ≡ (run_of s.params (history_entries (config_in s) l.followed)).screen }
         ensures whole { IsPicture (picture result) }
     {
         self.followed.shown()

@@ -11,12 +11,12 @@ use Rattle.picture_header.specs.Laws.{HeaderLaws}
 use Rattle.picture_header.specs.Ranges.{IsHeader}
 use Rattle.macroblock_layer.specs.Written.{mb_text}
 use Rattle.macroblock_layer.specs.Laws.{MbLaws}
-use Rattle.slice_layer.specs.Laws.{AreShort}
+use Rattle.slice_layer.specs.Laws.{AreSlicesShort}
 use Rattle.slice_layer.proofs.Openings.{length-begins, length-later, opening_short}
 use Rattle.slice_layer.specs.Around.{Around, around, vector_of, vectors_of, next_predictor, quant_after}
-use Rattle.slice_layer.specs.Written.{opening_text, mbs_text, slice_text, bytes_of, quant_after_all}
+use Rattle.slice_layer.specs.Written.{opening_text, mbs_text, slice_text, bytes_filled_by, quant_after_all}
 use Rattle.slice_layer.specs.declared.writing.Added.TheVariants.{Fits, Full}
-use Rattle.slice_layer.specs.Writer.{answer}
+use Rattle.slice_layer.specs.Writer.{added_within}
 
 pub quant_after_all-append : (quant : ℕ) (mbs : List Mb) (m : Mb) → quant_after_all quant (mbs ++ m ∷ [])
     ≡ quant_after (quant_after_all quant mbs) m
@@ -65,21 +65,23 @@ no_text h begins first = append-nil (opening_text h begins first)
 -- ---- bytes
 
 -- a text takes no more bytes than there is room for, exactly where it has no more bits
-pub bytes_within : (room : ℕ) (text : List Bool) → length text ≤ 8 * room → bytes_of text ≤ room
+pub bytes_within : (room : ℕ) (text : List Bool) → length text ≤ 8 * room → bytes_filled_by text ≤ room
 bytes_within room text h = omega arith
 
-pub bytes_past : (room : ℕ) (text : List Bool) → 8 * room < length text → room < bytes_of text
+pub bytes_past : (room : ℕ) (text : List Bool) → 8 * room < length text → room < bytes_filled_by text
 bytes_past room text h = omega arith
 
-pub answer_fits : (room : ℕ) (text : List Bool) → length text ≤ 8 * room → Fits ≡ answer room (bytes_of text)
-answer_fits room text h = rw (le-ltb room (bytes_of text) (bytes_within room text h)) refl
+pub answer_fits : (room : ℕ) (text : List Bool) → length text ≤ 8 * room
+    → Fits ≡ added_within room (bytes_filled_by text)
+answer_fits room text h = rw (le-ltb room (bytes_filled_by text) (bytes_within room text h)) refl
 
-pub answer_full : (room : ℕ) (text : List Bool) → 8 * room < length text → Full ≡ answer room (bytes_of text)
-answer_full room text h = rw (lt-ltb room (bytes_of text) (bytes_past room text h)) refl
+pub answer_full : (room : ℕ) (text : List Bool) → 8 * room < length text
+    → Full ≡ added_within room (bytes_filled_by text)
+answer_full room text h = rw (lt-ltb room (bytes_filled_by text) (bytes_past room text h)) refl
 
 -- a slice of one macroblock
 one_short : HeaderLaws → MbLaws → (h : Header) (begins : Bool) (first : ℕ) (m : Mb) → IsHeader h → HasWholeBlocks m
-    → bytes_of (slice_text h begins first (m ∷ [])) ≤ 1095
+    → bytes_filled_by (slice_text h begins first (m ∷ [])) ≤ 1095
 one_short laws of_mbs h begins first m is whole =
     let bits : length (slice_text h begins first (m ∷ [])) ≤ 8754 =
     omega (
@@ -93,7 +95,7 @@ one_short laws of_mbs h begins first m is whole =
     bytes_within 1095 (slice_text h begins first (m ∷ [])) (omega (arith, bits))
 
 -- how many bits the text of a slice has at most
-pub are_short : HeaderLaws → MbLaws → AreShort
+pub are_short : HeaderLaws → MbLaws → AreSlicesShort
 are_short laws of_mbs = record {
   begins = length-begins laws;
   later = length-later;

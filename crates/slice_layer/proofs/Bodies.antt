@@ -13,8 +13,8 @@ use Rattle.h263_bits.proofs.SyntaxLaws.{bind_ok, ok_is, err_not_ok, sound, compl
 use Rattle.picture_header.specs.declared.header.Header.{Header}
 use Rattle.macroblock_layer.specs.Laws.{MbLaws}
 use Rattle.slice_layer.specs.Around.{Around, around, quant_after, next_mb}
-use Rattle.slice_layer.specs.Head.{head}
-use Rattle.slice_layer.specs.Text.{is_padding, AreTexts, IsSliceText, stops, mbs_at, numbered, body_at, slice_at, slice_fault}
+use Rattle.slice_layer.specs.Head.{head_of_slice}
+use Rattle.slice_layer.specs.Text.{is_padding, AreTexts, IsSliceText, stops, mbs_at, first_with, body_at, slice_at, slice_fault}
 use Rattle.slice_layer.specs.Laws.{AreRead}
 use Rattle.slice_layer.specs.Filled.{Fills, IsSliceIn, mbs_from}
 use Rattle.slice_layer.proofs.Heads.{head_productive}
@@ -127,7 +127,7 @@ mbs_complete laws a (m ∷ new) (suc room) quant at before text padding le some 
 
 -- ---- a whole slice
 
-numbered_ok : (first n : ℕ) (mbs : List Mb) (r : Result (List Mb) Fault) → numbered n r ≡ Ok (first, mbs)
+numbered_ok : (first n : ℕ) (mbs : List Mb) (r : Result (List Mb) Fault) → first_with n r ≡ Ok (first, mbs)
     → (n ≡ first) × (r ≡ Ok mbs)
 numbered_ok first n mbs (Ok found) e = let f = ok_is (n, found) (first, mbs) e in
     (ap (λ (p : ℕ × List Mb). p.0) f, ap (λ (p : ℕ × List Mb). Ok p.1) f)
@@ -138,11 +138,11 @@ slice_sound : (h : Header) (begins : Bool) (first : ℕ) (mbs : List Mb) (b : Bi
     → slice_at h begins b ≡ Ok (first, mbs) → IsSliceText h begins first mbs b.bits
 unfolding slice_at
 slice_sound h begins first mbs b e =
-    let one = bind_ok (reading (head h begins) b) (λ x. body_at h x.0.0 x.0.1 x.1) (first, mbs) e in
+    let one = bind_ok (reading (head_of_slice h begins) b) (λ x. body_at h x.0.0 x.0.1 x.1) (first, mbs) e in
     let n = one.0.0.0 in
     let quant = one.0.0.1 in
     let c = one.0.1 in
-    let t = sound (head h begins) b c (n, quant) one.1 in
+    let t = sound (head_of_slice h begins) b c (n, quant) one.1 in
     let r = numbered_ok first n mbs (mbs_at (around h n) (mbs_of h.format - n) quant [] c) one.2 in
     let body = mbs_sound (around h n) (mbs_of h.format - n) quant [] mbs c r.1 in
     let whole : IsSliceText h begins n mbs b.bits = record {
@@ -168,14 +168,15 @@ pub slice_complete : MbLaws → (h : Header) (begins : Bool) (first : ℕ) (mbs 
     → IsSliceText h begins first mbs b.bits → slice_at h begins b ≡ Ok (first, mbs)
 unfolding slice_at
 slice_complete laws h begins first mbs b is =
-    let one = complete (head h begins) (first, is.quant) is.front is.after b.at (head_productive h begins) is.opened in
-    let opened : reading (head h begins) b ≡ Ok (
+    let one = complete (head_of_slice h begins) (first, is.quant) is.front is.after b.at (head_productive h begins)
+    is.opened in
+    let opened : reading (head_of_slice h begins) b ≡ Ok (
       (first, is.quant),
       record {
         at = b.at + length is.front;
         bits = is.after;
       },
-    ) = ap (λ (t : List Bool). reading (head h begins) (record { at = b.at; bits = t })) is.parts
+    ) = ap (λ (t : List Bool). reading (head_of_slice h begins) (record { at = b.at; bits = t })) is.parts
     ∙ one in
     let body = is.body in
     let all = mbs_complete laws (around h first) mbs (mbs_of h.format - first) is.quant (b.at + length is.front) []
@@ -196,14 +197,16 @@ are_read laws = λ h begins first mbs b. (slice_sound h begins first mbs b, slic
 
 pub fills_texts : (r : Result SliceHead Fault) (out : List Mb) (h : Header) (begins : Bool) (b : Bits)
     → Fills r out (slice_at h begins b)
-    → IfOk r (λ head. IsSliceText h begins head.first (mbs_from head.first head.count out) b.bits)
+    → IfOk r (λ head_of_slice. IsSliceText h begins head_of_slice.first
+    (mbs_from head_of_slice.first head_of_slice.count out) b.bits)
 fills_texts (Ok slice) out h begins b g = slice_sound h begins slice.first (mbs_from slice.first slice.count out) b g
 fills_texts (Err fault) out h begins b g = tt
 
 pub texts_fill : MbLaws → (r : Result SliceHead Fault) (out : List Mb) (h : Header) (begins : Bool) (b : Bits)
     → IfOk r (IsSliceIn h out) → length out ≡ mbs_of h.format → Fills r out (slice_at h begins b)
     → (first : ℕ) (mbs : List Mb) → IsSliceText h begins first mbs b.bits
-    → IsOkAnd r (λ head. (head.first ≡ first) × (head.count ≡ length mbs) × (mbs_from head.first head.count out
+    → IsOkAnd r (λ head_of_slice. (head_of_slice.first ≡ first) × (head_of_slice.count ≡ length mbs)
+    × (mbs_from head_of_slice.first head_of_slice.count out
     ≡ mbs))
 texts_fill laws (Ok slice) out h begins b range size g first mbs is =
     let f = ok_is (slice.first, mbs_from slice.first slice.count out) (first, mbs) (sym g

@@ -18,8 +18,8 @@ use Rattle.picture_header.specs.declared.header.Header.{Header}
 use Rattle.picture_header.specs.Text.{allowed_quant}
 use Rattle.macroblock_layer.specs.Laws.{MbLaws}
 use Rattle.slice_layer.specs.Around.{Around, around, quant_after, next_mb}
-use Rattle.slice_layer.specs.Head.{address_bits, allowed_first, reference, first_head, place, tail, later_head, head}
-use Rattle.slice_layer.specs.Text.{is_padding, AreTexts, stops, mbs_at, numbered, body_at, slice_at}
+use Rattle.slice_layer.specs.Head.{address_bits, allowed_first, slice_reference, first_head, place, tail, later_head, head_of_slice}
+use Rattle.slice_layer.specs.Text.{is_padding, AreTexts, stops, mbs_at, first_with, body_at, slice_at}
 use Rattle.slice_layer.specs.Written.{quant_after_all}
 use Rattle.slice_layer.specs.Faults.{TailFaults, HasSliceFault, StopsAt, IsBodyFault, IsSliceFault, SliceFaults}
 use Rattle.slice_layer.proofs.Heads.{reference_productive, place_productive, head_productive}
@@ -141,19 +141,19 @@ tail_tri trp gfid lt =
     fault_after_field 2 any _ gfid (fields ((1, 1) ∷ [])) faults.SliceReference 0 lt refl
     (fault_here 1 (only 0 faults.SliceReference) _ 1 [] faults.SliceReference (omega arith) refl)
 
-refers_intra : HasFault (reference None) (fields ((1, 1) ∷ [])) faults.SliceReference 0
-unfolding reference
+refers_intra : HasFault (slice_reference None) (fields ((1, 1) ∷ [])) faults.SliceReference 0
+unfolding slice_reference
 refers_intra =
     fault_here 1 (only 0 faults.SliceReference) _ 1 [] faults.SliceReference (omega arith) refl
 
-refers_inter : (trp : ℕ) → HasFault (reference (Some trp)) (fields ((1, 0) ∷ [])) faults.SliceReference 0
-unfolding reference
+refers_inter : (trp : ℕ) → HasFault (slice_reference (Some trp)) (fields ((1, 0) ∷ [])) faults.SliceReference 0
+unfolding slice_reference
 refers_inter trp =
     fault_here 1 (only 1 faults.SliceReference) _ 0 [] faults.SliceReference (omega arith) refl
 
 refers_other : (trp n : ℕ) → n < 1024 → (n ≡ trp → ⊥)
-    → HasFault (reference (Some trp)) (fields ((1, 1) ∷ (10, n) ∷ [])) faults.SliceReference 1
-unfolding reference
+    → HasFault (slice_reference (Some trp)) (fields ((1, 1) ∷ (10, n) ∷ [])) faults.SliceReference 1
+unfolding slice_reference
 refers_other trp n lt other =
     fault_after_field 1 (only 1 faults.SliceReference) _ 1 (fields ((10, n) ∷ [])) faults.SliceReference 0 (omega arith)
     refl
@@ -166,7 +166,7 @@ one_field n v text = ap (λ (t : List Bool). t ++ text) (append-nil (spelled n v
 
 -- what stands after GFID and TRI
 abbrev after_gfid : Option ℕ → Syntax (Unit {0})
-after_gfid trp = part (reference trp) any λ again. field 2 (only 1 faults.Bci) λ bci. done tt
+after_gfid trp = part (slice_reference trp) any λ again. field 2 (only 1 faults.Bci) λ bci. done tt
 
 after_tri : (trp : Option ℕ) (gfid : ℕ) (text : List Bool) (kind : FaultKind) (place : ℕ) → gfid < 4
     → HasFault (after_gfid trp) text kind place
@@ -182,17 +182,19 @@ after_tri trp gfid text kind place lt h =
     (fault_after_field 1 (only 0 faults.SliceReference) _ 0 text kind place (omega arith) refl h))
 
 tail_reference : (trp : Option ℕ) (gfid : ℕ) (text : List Bool) (kind : FaultKind) (place : ℕ) → gfid < 4
-    → HasFault (reference trp) text kind place
+    → HasFault (slice_reference trp) text kind place
     → HasFault (tail trp) (fields ((2, gfid) ∷ []) ++ (fields ((1, 0) ∷ []) ++ text)) kind (2 + (1 + place))
 tail_reference trp gfid text kind place lt h = after_tri trp gfid text kind place lt
-    (fault_in_part (reference trp) any _ text kind place h)
+    (fault_in_part (slice_reference trp) any _ text kind place h)
 
-tail_bci : (trp : Option ℕ) (gfid n : ℕ) (a : List Bool) → gfid < 4 → n < 4 → (n ≡ 1 → ⊥) → Spells (reference trp) tt a
+tail_bci : (trp : Option ℕ) (gfid n : ℕ) (a : List Bool) → gfid < 4 → n < 4 → (n ≡ 1 → ⊥)
+    → Spells (slice_reference trp) tt a
     → HasFault (tail trp) (fields ((2, gfid) ∷ []) ++ (fields ((1, 0) ∷ []) ++ (a ++ fields ((2, n) ∷ [])))) faults.Bci
     (2 + (1 + (length a + 0)))
 tail_bci trp gfid n a lt small other spelt =
     after_tri trp gfid (a ++ fields ((2, n) ∷ [])) faults.Bci (length a + 0) lt
-    (fault_after_part (reference trp) any _ tt a (fields ((2, n) ∷ [])) faults.Bci 0 (reference_productive trp) spelt
+    (fault_after_part (slice_reference trp) any _ tt a (fields ((2, n) ∷ [])) faults.Bci 0 (reference_productive trp)
+    spelt
     refl
     (fault_here 2 (only 1 faults.Bci) _ n [] faults.Bci small (only_other 1 n faults.Bci other)))
 
@@ -252,7 +254,7 @@ unfolding AreTexts
 no_texts a quant [] texts e h = h
 no_texts a quant (m ∷ mbs) texts e h = absurd cc
 
-in_head : (h : Header) (begins : Bool) (b : Bits) (d : Fault) → reading (head h begins) b ≡ Err d
+in_head : (h : Header) (begins : Bool) (b : Bits) (d : Fault) → reading (head_of_slice h begins) b ≡ Err d
     → slice_at h begins b ≡ Err d
 unfolding slice_at
 in_head h begins b d e = rw e refl
@@ -278,22 +280,22 @@ stops_in_mb a room quant at place before bits kind z e = rw (z, e) refl
 -- ---- the whole slice
 
 head_row : (h : Header) (begins : Bool) (text : List Bool) (kind : FaultKind) (place : ℕ)
-    → HasFault (head h begins) text kind place → HasSliceFault h begins text kind place
+    → HasFault (head_of_slice h begins) text kind place → HasSliceFault h begins text kind place
 unfolding slice_at
 head_row h begins text kind place e = λ at rest. rw (e at rest) refl
 
 -- after its header a slice has the fault of its macroblocks
 after_head : (h : Header) (begins : Bool) (first quant at : ℕ) (front rest : List Bool) (kind : FaultKind) (place : ℕ)
-    → Spells (head h begins) (first, quant) front
+    → Spells (head_of_slice h begins) (first, quant) front
     → mbs_at (around h first) (mbs_of h.format - first) quant [] (record { at = at + length front; bits = rest })
     ≡ Err (record { kind = kind; at = place })
     → slice_at h begins (record { at = at; bits = front ++ rest }) ≡ Err (record { kind = kind; at = place })
 unfolding slice_at
 after_head h begins first quant at front rest kind place spelt e =
-    rw (complete (head h begins) (first, quant) front rest at (head_productive h begins) spelt, e) refl
+    rw (complete (head_of_slice h begins) (first, quant) front rest at (head_productive h begins) spelt, e) refl
 
 empty_row : (h : Header) (begins : Bool) (first quant at : ℕ) (front padding : List Bool)
-    → Spells (head h begins) (first, quant) front → is_padding padding ≡ true
+    → Spells (head_of_slice h begins) (first, quant) front → is_padding padding ≡ true
     → slice_at h begins (record { at = at; bits = front ++ padding })
     ≡ Err (record { kind = faults.Empty; at = at + length front })
 empty_row h begins first quant at front padding spelt z = after_head h begins first quant at front padding faults.Empty
@@ -301,7 +303,7 @@ empty_row h begins first quant at front padding spelt z = after_head h begins fi
     z)
 
 trailing_row : MbLaws → (h : Header) (begins : Bool) (first quant at : ℕ) (mbs : List Mb) (front texts rest : List Bool)
-    → Spells (head h begins) (first, quant) front → AreTexts (around h first) quant [] mbs texts
+    → Spells (head_of_slice h begins) (first, quant) front → AreTexts (around h first) quant [] mbs texts
     → length mbs ≡ mbs_of h.format - first → is_padding rest ≡ false
     → slice_at h begins (record { at = at; bits = front ++ (texts ++ rest) })
     ≡ Err (record { kind = faults.Trailing; at = at + length front + length texts })
@@ -317,7 +319,7 @@ trailing_row laws h begins first quant at mbs front texts rest spelt each full z
     found
 
 mb_row : MbLaws → (h : Header) (begins : Bool) (first quant : ℕ) (mbs : List Mb) (front texts text : List Bool)
-    (kind : FaultKind) (place : ℕ) → Spells (head h begins) (first, quant) front
+    (kind : FaultKind) (place : ℕ) → Spells (head_of_slice h begins) (first, quant) front
     → AreTexts (around h first) quant [] mbs texts
     → length mbs < mbs_of h.format - first
     → HasFault (next_mb (around h first) (quant_after_all quant mbs) mbs) text kind place
@@ -468,7 +470,7 @@ mbs_fault_again laws a room quant b d is = whole ∙ at_stop is.stops
         after (suc left) (omega (arith, h.0))
         ∙ stops_in_mb a left q (b.at + length is.texts) d.at is.mbs is.left d.kind h.1 read
 
-numbered_err : (first : ℕ) (r : Result (List Mb) Fault) (d : Fault) → numbered first r ≡ Err d → r ≡ Err d
+numbered_err : (first : ℕ) (r : Result (List Mb) Fault) (d : Fault) → first_with first r ≡ Err d → r ≡ Err d
 numbered_err first (Ok mbs) d e = absurd (err_not_ok d (first, mbs) (sym e))
 numbered_err first (Err fault) d e = ap (λ (f : Fault). err {A = List Mb} f) (err_is {A = ℕ × List Mb} fault d e)
 
@@ -476,13 +478,13 @@ slice_fault_found : MbLaws → (h : Header) (begins : Bool) (b : Bits) (d : Faul
     → IsSliceFault h begins b d
 unfolding slice_at
 slice_fault_found laws h begins b d e =
-    elim (bind_err (reading (head h begins) b) (λ x. body_at h x.0.0 x.0.1 x.1) d e) [
-      | inl f ↦ inl (fault_found (head h begins) b d (head_productive h begins) f)
+    elim (bind_err (reading (head_of_slice h begins) b) (λ x. body_at h x.0.0 x.0.1 x.1) d e) [
+      | inl f ↦ inl (fault_found (head_of_slice h begins) b d (head_productive h begins) f)
       | inr f ↦
           let first = f.0.0.0 in
           let quant = f.0.0.1 in
           let c = f.0.1 in
-          let t = sound (head h begins) b c (first, quant) f.1 in
+          let t = sound (head_of_slice h begins) b c (first, quant) f.1 in
           let body = mbs_fault laws (around h first) (mbs_of h.format - first) quant [] c d
           (numbered_err first (mbs_at (around h first) (mbs_of h.format - first) quant [] c) d f.2) in
           inr (
@@ -502,7 +504,7 @@ slice_fault_found laws h begins b d e =
 slice_fault_again : MbLaws → (h : Header) (begins : Bool) (b : Bits) (d : Fault) → IsSliceFault h begins b d
     → slice_at h begins b ≡ Err d
 slice_fault_again laws h begins b d (inl f) =
-    in_head h begins b d ((first_fault_is (head h begins) b d (head_productive h begins)).1 f)
+    in_head h begins b d ((first_fault_is (head_of_slice h begins) b d (head_productive h begins)).1 f)
 slice_fault_again laws h begins b d (inr f) =
     let first = f.0 in
     let quant = f.1 in
@@ -513,7 +515,7 @@ slice_fault_again laws h begins b d (inr f) =
 pub slice_faults : MbLaws → SliceFaults
 slice_faults laws = record {
   whole = λ h begins b fault. (slice_fault_found laws h begins b fault, slice_fault_again laws h begins b fault);
-  head = λ h begins b fault. first_fault_is (head h begins) b fault (head_productive h begins);
+  head = λ h begins b fault. first_fault_is (head_of_slice h begins) b fault (head_productive h begins);
   first_head = λ h. record { marker = first_marker h; address = first_address h; end = first_end h };
   places = λ f. record {
     start = place_start f;

@@ -6,17 +6,17 @@ use Rattle.h263_bits.specs.Bits.{spelled, number, bits_of}
 use Rattle.h263_bits.specs.Reading.{bits_between}
 use Rattle.h263_bits.specs.Written.{to_byte}
 use Rattle.h263_bits.proofs.SyntaxLaws.{spelled-number, length-bits_of, bits_of-take, bits_of-append, take-take}
-use Rattle.slice_layer.specs.Written.{bytes_of, padded, IsFront}
+use Rattle.slice_layer.specs.Written.{bytes_filled_by, padded, IsPaddedFront}
 
 whole_bytes : (n : ℕ) → 8 * ((n + to_byte n) / 8) ≡ n + to_byte n
 whole_bytes n = omega arith
 
 -- what a writer wrote from the first bit on, up to a whole byte
 pub front_is : (text : List Bool) (bytes : List ℕ) (len : ℕ) → take len (bits_of bytes) ≡ padded text
-    → len ≡ length text + to_byte (length text) → len ≤ 8 * length bytes → IsFront text bytes
+    → len ≡ length text + to_byte (length text) → len ≤ 8 * length bytes → IsPaddedFront text bytes
 front_is text bytes len h e within =
-    let whole : 8 * bytes_of text ≡ len = whole_bytes (length text) ∙ sym e in
-    bits_of-take (bytes_of text) bytes (omega arith) ∙ ap (λ (k : ℕ). take k (bits_of bytes)) whole ∙ h
+    let whole : 8 * bytes_filled_by text ≡ len = whole_bytes (length text) ∙ sym e in
+    bits_of-take (bytes_filled_by text) bytes (omega arith) ∙ ap (λ (k : ℕ). take k (bits_of bytes)) whole ∙ h
 
 -- the first bits, by the number that they spell
 spelled_first : (n : ℕ) (bits : List Bool) → n ≤ length bits → spelled n (number (take n bits)) ≡ take n bits
@@ -51,30 +51,31 @@ last_again bytes len last within e =
     ap (λ (t : List Bool). take at bits ++ t) spelt ∙ sym (take-add at n bits) ∙ ap (λ (k : ℕ). take k bits) whole
 
 -- the bits of a text stand at the start of the bytes
-pub text_there : (text : List Bool) (bytes : List ℕ) → IsFront text bytes → length text ≤ 8 * length bytes
+pub text_there : (text : List Bool) (bytes : List ℕ) → IsPaddedFront text bytes → length text ≤ 8 * length bytes
     → take (length text) (bits_of bytes) ≡ text
 text_there text bytes h within =
     let n = length text in
-    let whole : 8 * bytes_of text ≡ n + to_byte n = whole_bytes n in
-    let room : bytes_of text ≤ length bytes = omega arith in
-    let shown : take (8 * bytes_of text) (bits_of bytes) ≡ padded text = sym (bits_of-take (bytes_of text) bytes room)
+    let whole : 8 * bytes_filled_by text ≡ n + to_byte n = whole_bytes n in
+    let room : bytes_filled_by text ≤ length bytes = omega arith in
+    let shown : take (8 * bytes_filled_by text) (bits_of bytes)
+    ≡ padded text = sym (bits_of-take (bytes_filled_by text) bytes room)
     ∙ h in
-    sym (take-take n (8 * bytes_of text) (bits_of bytes) (omega arith) (omega (arith, length-bits_of bytes)))
+    sym (take-take n (8 * bytes_filled_by text) (bits_of bytes) (omega arith) (omega (arith, length-bits_of bytes)))
     ∙ ap (take n) shown ∙ take_at text (spelled (to_byte n) 0) n refl
 
 -- after a text of n bits the bytes were written again, from its last whole byte on
 pub grown : (old new apart : List ℕ) (text front more : List Bool) (n size : ℕ) → n ≡ length text → n ≤ 8 * length old
-    → IsFront text old
+    → IsPaddedFront text old
     → length front ≡ n % 8 → take (8 * (n / 8)) (bits_of old) ++ front ≡ take n (bits_of old)
-    → size ≡ bytes_of (front ++ more) → IsFront (front ++ more) apart
+    → size ≡ bytes_filled_by (front ++ more) → IsPaddedFront (front ++ more) apart
     → take (n / 8 + size) new ≡ take (n / 8) old ++ take size apart
-    → IsFront (text ++ more) new
+    → IsPaddedFront (text ++ more) new
 grown old new apart text front more n size is within h few last fits g e =
     let at = n / 8 in
     let long : length (front ++ more) ≡ n % 8 + length more = omega (arith, length-append front more) in
     let longer : length (text ++ more) ≡ n + length more = omega (arith, is, length-append text more) in
     let zeros : to_byte (length (front ++ more)) ≡ to_byte (length (text ++ more)) = omega (arith, long, longer) in
-    let whole : bytes_of (text ++ more) ≡ at + size = omega (arith, long, longer, fits) in
+    let whole : bytes_filled_by (text ++ more) ≡ at + size = omega (arith, long, longer, fits) in
     let bits : bits_of (take (at + size) new) ≡ bits_of (take at old) ++ bits_of (take size apart) = ap bits_of e
     ∙ bits_of-append (take at old) (take size apart) in
     let first : bits_of (take at old) ≡ take (8 * at) (bits_of old) = bits_of-take at old (omega arith) in

@@ -11,37 +11,38 @@ use Rattle.picture_header.specs.declared.header.Header.{Header}
 use Rattle.macroblock_layer.specs.Prediction.{no_vector, predictor_of}
 use Rattle.macroblock_layer.specs.Written.{mb_text}
 use Rattle.slice_layer.specs.Around.{vector_of, vectors_of, next_predictor, quant_after}
-use Rattle.slice_layer.specs.Written.{opening_text, slice_text, quant_after_all, IsFront}
+use Rattle.slice_layer.specs.Written.{opening_text, slice_text, quant_after_all, IsPaddedFront}
 use Rattle.slice_layer.specs.declared.writing.SliceWriter.{SliceWriter}
 use Rattle.slice_layer.proofs.Adding.{no_text, next_text, slice_text-append, quant_after_all-append, vectors_of-append}
-use Rattle.slice_layer.specs.Writer.{kind_of, format_of, first_of, next_of, quant_of, bytes_in, HoldsSlice}
+use Rattle.slice_layer.specs.Writer.{slice_kind, slice_format, first_mb_of, next_mb_of, quant_of, bytes_lent, HoldsSlice}
 
 no_step : (quant : ℕ) → quant ≡ quant_after_all quant []
 no_step quant = refl
 
 pub begun : (w : SliceWriter) (h : Header) (begins : Bool) (first : ℕ)
-    → IsFront (opening_text h begins first) (bytes_in w) → w.len ≡ length (opening_text h begins first)
-    → kind_of w ≡ h.kind → format_of w ≡ h.format → first_of w ≡ first → next_of w ≡ first → quant_of w ≡ h.quant
+    → IsPaddedFront (opening_text h begins first) (bytes_lent w) → w.len ≡ length (opening_text h begins first)
+    → slice_kind w ≡ h.kind → slice_format w ≡ h.format → first_mb_of w ≡ first → next_mb_of w ≡ first
+    → quant_of w ≡ h.quant
     → w.vectors ≡ replicate 396 no_vector → HoldsSlice w h begins first []
 begun w h begins first text len kind format from next quant vectors = record {
-  text = subst (λ (t : List Bool). IsFront t (bytes_in w)) (sym (no_text h begins first)) text;
+  text = subst (λ (t : List Bool). IsPaddedFront t (bytes_lent w)) (sym (no_text h begins first)) text;
   len = len ∙ ap length (sym (no_text h begins first));
   kind = kind;
   format = format;
   from = from;
   next = omega (arith, next);
   quant = quant ∙ no_step h.quant;
-  vectors = ap (take (next_of w)) vectors ∙ take-replicate (next_of w) 396 no_vector w.within
+  vectors = ap (take (next_mb_of w)) vectors ∙ take-replicate (next_mb_of w) 396 no_vector w.within
       ∙ ap (λ (k : ℕ). replicate k no_vector) next ∙ sym (append-nil (replicate first no_vector));
 }
 
 -- the prediction of the next macroblock's vector
 abbrev pub prediction : SliceWriter → Vector
-prediction w = predictor_of (take (next_of w) w.vectors) (first_of w) (next_of w) (columns_of (format_of w))
+prediction w = predictor_of (take (next_mb_of w) w.vectors) (first_mb_of w) (next_mb_of w) (columns_of (slice_format w))
 
 -- a vector with which a macroblock has the text that it has with the prediction
 abbrev pub Serves : SliceWriter → Mb → Vector → Type 0
-Serves w m v = mb_text (kind_of w) (quant_of w) v m ≡ mb_text (kind_of w) (quant_of w) (prediction w) m
+Serves w m v = mb_text (slice_kind w) (quant_of w) v m ≡ mb_text (slice_kind w) (quant_of w) (prediction w) m
 
 abbrev pub HasNoVector : Mb → Type 0
 HasNoVector Skip = Unit {0}
@@ -62,12 +63,12 @@ not_predicted kind quant a b m n same none = subst (λ (x : Mb). mb_text kind qu
 -- what is written of the next macroblock is its text after those that are held
 pub next_is : (w : SliceWriter) (h : Header) (begins : Bool) (first : ℕ) (mbs : List Mb) (m : Mb) (v : Vector)
     → HoldsSlice w h begins first mbs → Serves w m v
-    → mb_text (kind_of w) (quant_of w) v m ≡ next_text h first mbs m
+    → mb_text (slice_kind w) (quant_of w) v m ≡ next_text h first mbs m
 next_is w h begins first mbs m v holds serves =
     let p : prediction w ≡ next_predictor h.format first mbs =
-    ap (λ (l : List Vector). predictor_of l (first_of w) (next_of w) (columns_of (format_of w))) holds.vectors
-    ∙ ap (λ (k : ℕ). predictor_of (vectors_of first mbs) k (next_of w) (columns_of (format_of w))) holds.from
-    ∙ ap (λ (k : ℕ). predictor_of (vectors_of first mbs) first k (columns_of (format_of w))) holds.next
+    ap (λ (l : List Vector). predictor_of l (first_mb_of w) (next_mb_of w) (columns_of (slice_format w))) holds.vectors
+    ∙ ap (λ (k : ℕ). predictor_of (vectors_of first mbs) k (next_mb_of w) (columns_of (slice_format w))) holds.from
+    ∙ ap (λ (k : ℕ). predictor_of (vectors_of first mbs) first k (columns_of (slice_format w))) holds.next
     ∙ ap (λ (f : Format). predictor_of (vectors_of first mbs) first (first + length mbs) (columns_of f))
     holds.format in
     serves ∙ ap (λ (k : Kind). mb_text k (quant_of w) (prediction w) m) holds.kind
@@ -76,7 +77,7 @@ next_is w h begins first mbs m v holds serves =
 
 pub next_length : (w : SliceWriter) (h : Header) (begins : Bool) (first : ℕ) (mbs : List Mb) (m : Mb) (v : Vector)
     → HoldsSlice w h begins first mbs → Serves w m v
-    → length (slice_text h begins first (mbs ++ m ∷ [])) ≡ w.len + length (mb_text (kind_of w) (quant_of w) v m)
+    → length (slice_text h begins first (mbs ++ m ∷ [])) ≡ w.len + length (mb_text (slice_kind w) (quant_of w) v m)
 next_length w h begins first mbs m v holds serves =
     omega (
       arith,
@@ -88,22 +89,22 @@ next_length w h begins first mbs m v holds serves =
 
 -- what the writer keeps for the macroblocks after this one
 pub record Keeps (old new : SliceWriter) (m : Mb) : Type 0 where
-  pub kind : kind_of new ≡ kind_of old
-  pub format : format_of new ≡ format_of old
-  pub from : first_of new ≡ first_of old
-  pub next : next_of new ≡ next_of old + 1
+  pub kind : slice_kind new ≡ slice_kind old
+  pub format : slice_format new ≡ slice_format old
+  pub from : first_mb_of new ≡ first_mb_of old
+  pub next : next_mb_of new ≡ next_mb_of old + 1
   pub quant : quant_of new ≡ quant_after (quant_of old) m
-  pub vectors : take (next_of new) new.vectors ≡ take (next_of old) old.vectors ++ vector_of m ∷ []
+  pub vectors : take (next_mb_of new) new.vectors ≡ take (next_mb_of old) old.vectors ++ vector_of m ∷ []
 
 pub held : (old new : SliceWriter) (h : Header) (begins : Bool) (first : ℕ) (mbs : List Mb) (m : Mb)
     → HoldsSlice old h begins first mbs
-    → IsFront (slice_text h begins first mbs ++ next_text h first mbs m) (bytes_in new)
+    → IsPaddedFront (slice_text h begins first mbs ++ next_text h first mbs m) (bytes_lent new)
     → new.len ≡ old.len + length (next_text h first mbs m) → Keeps old new m
     → HoldsSlice new h begins first (mbs ++ m ∷ [])
 held old new h begins first mbs m holds text len keeps =
     let e = slice_text-append h begins first mbs m in
     record {
-      text = subst (λ (t : List Bool). IsFront t (bytes_in new)) (sym e) text;
+      text = subst (λ (t : List Bool). IsPaddedFront t (bytes_lent new)) (sym e) text;
       len = omega (
         arith,
         len,

@@ -8,7 +8,7 @@ use Rattle.h263_types.specs.declared.vector.Vector.{Vector}
 use Rattle.h263_types.specs.declared.vector.Reach.{Reach}
 use Rattle.h263_types.specs.declared.blocks.Mb.{Mb}
 use Rattle.h263_bits.specs.Bits.{spelled}
-use Rattle.h263_bits.specs.Syntax.{Turn, again, finally, Turns, IsIn, either, done, Spells}
+use Rattle.h263_bits.specs.Syntax.{LoopTurn, again, finally, Turns, IsIn, either, done, Spells}
 use Rattle.code_tables.specs.declared.macroblock.Mcbpc.{Mcbpc}
 use Rattle.code_tables.specs.Mcbpc.{mcbpc, mcbpc_table, mcbpc_words, class_texts}
 use Rattle.h263_bits.proofs.SyntaxLaws.{and_both, not_false}
@@ -59,7 +59,7 @@ word_marked kind m text h = whole_one h.0 h.2 text h.4 (marked_word (mcbpc_table
   h.1,
 ) (words_marked kind) h.3)
 
-class_marked : (kind : Kind) (t : Turn (Unit {0}) Lead) (text : List Bool) → Spells (class_turn kind) t text
+class_marked : (kind : Kind) (t : LoopTurn (Unit {0}) Lead) (text : List Bool) → Spells (class_turn kind) t text
     → HasOne text
 unfolding Spells class_turn
 class_marked kind t text h = whole_one h.1 h.2 text h.3 (word_marked kind h.0 h.1 h.4)
@@ -69,7 +69,7 @@ one_after [] rest h = h
 one_after (true ∷ front) rest h = refl
 one_after (false ∷ front) rest h = one_after front rest h
 
-abbrev skipped : Turn (Unit {0}) Lead
+abbrev skipped : LoopTurn (Unit {0}) Lead
 skipped = finally Skipped
 
 set : HasOne (spelled 1 1)
@@ -77,7 +77,7 @@ unfolding spelled
 set = refl
 
 -- COD is 1, or it stands before MCBPC
-cod_marked : (cod : ℕ) (t : Turn (Unit {0}) Lead) (rest text : List Bool) → text ≡ spelled 1 cod ++ rest
+cod_marked : (cod : ℕ) (t : LoopTurn (Unit {0}) Lead) (rest text : List Bool) → text ≡ spelled 1 cod ++ rest
     → Spells (either (cod == 1) (done (skipped)) (class_turn kinds.P)) t rest → HasOne text
 cod_marked cod t rest text e = at (cod == 1) refl
   where
@@ -88,7 +88,7 @@ cod_marked cod t rest text e = at (cod == 1) refl
     at false is h = subst (λ (b : List Bool). HasOne b) (sym e)
         (one_after (spelled 1 cod) rest (class_marked kinds.P t rest h))
 
-turn_marked : (kind : Kind) (u : Unit {0}) (t : Turn (Unit {0}) Lead) (text : List Bool)
+turn_marked : (kind : Kind) (u : Unit {0}) (t : LoopTurn (Unit {0}) Lead) (text : List Bool)
     → Spells (lead_turn kind u) t text → HasOne text
 unfolding Spells lead_turn
 turn_marked kinds.I u t text h = class_marked kinds.I t text h

@@ -19,14 +19,14 @@ use Rattle.h263_bits.proofs.SyntaxLaws.{and_both}
 use Rattle.picture_header.specs.declared.header.Header.{Header}
 use Rattle.macroblock_layer.specs.declared.reading.Lead.{Lead}
 use Rattle.macroblock_layer.specs.declared.reading.Lead.TheVariants.{Skipped, Coded}
-use Rattle.macroblock_layer.specs.Text.{is_within_across, is_within_along, is_within, moved, in_reach, is_intra, vector, intra_mb, inter_mb, coded_mb, after_lead, mb, IsMbText}
+use Rattle.macroblock_layer.specs.Text.{is_within_across, is_within_along, is_within, moved, allowed_in_reach, is_intra, vector, intra_mb, inter_mb, coded_mb, after_lead, mb, IsMbText}
 use Rattle.macroblock_layer.specs.Written.{IsReached}
 use Rattle.slice_layer.specs.Filled.{IsMbAt}
 
 le_true : (a b : ℤ) → int_le a b ≡ true → a ≤ℤ b
 le_true a b e = record { le = T_from_true (int_le a b) e }
 
-is_reached : (reach : Reach) (predictor d : Vector) → in_reach reach predictor d ≡ None
+is_reached : (reach : Reach) (predictor d : Vector) → allowed_in_reach reach predictor d ≡ None
     → IsWithin reach (moved predictor d).x (moved predictor d).y
 is_reached reach predictor d = at (is_within reach (moved predictor d)) refl
   where

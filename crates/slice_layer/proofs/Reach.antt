@@ -8,7 +8,7 @@ use Rattle.h263_types.specs.declared.format.Format.TheVariants.{SubQcif, Qcif, C
 use Rattle.h263_types.specs.declared.vector.Reach.{Reach}
 use Rattle.h263_types.specs.Sizes.{width_of, height_of, columns_of, mbs_of}
 use Rattle.h263_types.specs.Vectors.{InSide, InReach, IsWithin}
-use Rattle.slice_layer.specs.Around.{least, most, reach_of}
+use Rattle.slice_layer.specs.Around.{least_component, most, reach_of}
 use Rattle.slice_layer.specs.Laws.{AreReached}
 
 -- ---- one component
@@ -42,7 +42,7 @@ InPart at size v = (neg_ℤ (pos 32) ≤ℤ v) × (v ≤ℤ pos 31) × InSide at
 abbrev Between : ℤ → ℤ → ℤ → Type 0
 Between low high v = (low ≤ℤ v) × (v ≤ℤ high)
 
-part_between : (at size : ℕ) (v : ℤ) → at + 16 ≤ size → InPart at size v → Between (least at) (most at size) v
+part_between : (at size : ℕ) (v : ℤ) → at + 16 ≤ size → InPart at size v → Between (least_component at) (most at size) v
 part_between at size v fits h =
     let p = halves v in
     let w = inside_within at size (unsigned_abs v % 2) v (int_shr v 1) p.whole p.bit fits h.2.0 h.2.1 in (
@@ -50,7 +50,7 @@ part_between at size v fits h =
       omega (arith, ints, h.1, w.1, int_min_is (pos 31) (pos (2 * (size - (at + 16))))),
     )
 
-between_part : (at size : ℕ) (v : ℤ) → at + 16 ≤ size → Between (least at) (most at size) v → InPart at size v
+between_part : (at size : ℕ) (v : ℤ) → at + 16 ≤ size → Between (least_component at) (most at size) v → InPart at size v
 between_part at size v fits h =
     let p = halves v in
     let low : neg_ℤ (pos (2 * at)) ≤ℤ v = omega (arith, ints, h.0, int_max_is (neg_ℤ (pos 32)) (neg_ℤ (pos (2 * at))))
@@ -67,7 +67,7 @@ between_part at size v fits h =
       (w.0, w.1),
     )
 
-none_between : (at size : ℕ) → Between (least at) (most at size) (pos 0)
+none_between : (at size : ℕ) → Between (least_component at) (most at size) (pos 0)
 none_between at size = (
   omega (arith, ints, int_max_is (neg_ℤ (pos 32)) (neg_ℤ (pos (2 * at)))),
   omega (arith, ints, int_min_is (pos 31) (pos (2 * (size - (at + 16))))),

@@ -25,10 +25,10 @@ use Rattle.picture_header.specs.Written.{kind_code, reference_fields, written_he
 use Rattle.macroblock_layer.specs.Written.{mb_text}
 use Rattle.macroblock_layer.specs.Laws.{MbLaws}
 use Rattle.slice_layer.specs.Around.{Around, around, quant_after, reach_of}
-use Rattle.slice_layer.specs.Head.{address_bits, allowed_first, reference, first_head, place, tail, later_head, head}
+use Rattle.slice_layer.specs.Head.{address_bits, allowed_first, slice_reference, first_head, place, tail, later_head, head_of_slice}
 use Rattle.slice_layer.specs.Text.{is_padding, AreTexts, IsSliceText}
-use Rattle.slice_layer.specs.Laws.{AreSpelt, IsOneMore}
-use Rattle.slice_layer.specs.Written.{gfid, place_fields, tail_text, head_text, mbs_text, slice_text, padded, quant_after_all, IsPlace, IsWritable, AreWritable}
+use Rattle.slice_layer.specs.Laws.{AreSlicesSpelt, IsOneMore}
+use Rattle.slice_layer.specs.Written.{gfid, place_fields, tail_text, slice_head_text, mbs_text, slice_text, padded, quant_after_all, IsSlicePlace, IsWritable, AreWritable}
 
 -- ---- the header
 
@@ -38,7 +38,7 @@ address_fits Qcif = omega arith
 address_fits Cif = omega arith
 
 -- the picture's first macroblock, after the picture header
-first_spelt : (h : Header) → Spells (first_head h) (0, h.quant) (head_text h true 0)
+first_spelt : (h : Header) → Spells (first_head h) (0, h.quant) (slice_head_text h true 0)
 unfolding first_head
 first_spelt h =
     spells_field 1 (only 1 faults.Marker) _ _ 1 _ (omega arith) refl
@@ -81,8 +81,8 @@ ten_bits clocks.Custom kinds.P (Some trp) is = omega (arith, is)
 only_itself : (value : ℕ) → only value faults.SliceReference value ≡ None
 only_itself value = rw (eq-eqb value value refl) refl
 
-reference_spelt : (trp : Option ℕ) → HasTenBits trp → Spells (reference trp) tt (fields (reference_fields trp))
-unfolding reference
+reference_spelt : (trp : Option ℕ) → HasTenBits trp → Spells (slice_reference trp) tt (fields (reference_fields trp))
+unfolding slice_reference
 reference_spelt None is = spells_field 1 (only 0 faults.SliceReference) _ _ 0 _ (omega arith) refl (spells_done tt)
 reference_spelt (Some trp) is =
     spells_field 1 (only 1 faults.SliceReference) _ _ 1 _ (omega arith) refl
@@ -99,7 +99,7 @@ tail_spelt h is =
     (fields (reference_fields h.trp) ++ fields ((2, 1) ∷ [])))
     (spells_field 2 any _ _ (gfid h) _ (omega (arith, is.rounding, code_low h.kind)) refl
     (spells_field 1 (only 0 faults.SliceReference) _ _ 0 _ (omega arith) refl
-    (spells_part (reference h.trp) any _ tt tt (fields (reference_fields h.trp)) _
+    (spells_part (slice_reference h.trp) any _ tt tt (fields (reference_fields h.trp)) _
     (reference_spelt h.trp (ten_bits h.clock h.kind h.trp is.trp)) refl
     (spells_field 2 (only 1 faults.Bci) _ _ 1 _ (omega arith) refl (spells_done tt)))))
   where
@@ -107,21 +107,21 @@ tail_spelt h is =
     regroup a b c = simp (append_assoc, append-nil)
 
 later_spelt : (h : Header) (first : ℕ) → IsHeader h → (first == 0) ≡ false → first < mbs_of h.format
-    → Spells (later_head h) (first, h.quant) (head_text h false first)
+    → Spells (later_head h) (first, h.quant) (slice_head_text h false first)
 unfolding later_head
 later_spelt h first is later lt =
-    spells_whole (later_head h) (first, h.quant) _ (head_text h false first)
+    spells_whole (later_head h) (first, h.quant) _ (slice_head_text h false first)
     (ap (λ (t : List Bool). fields (place_fields h first) ++ t) (append-nil (tail_text h)))
     (spells_part (place h.format) any _ (first, h.quant) (first, h.quant) (fields (place_fields h first)) _
     (place_spelt h first is later lt) refl
     (spells_part (tail h.trp) any _ (first, h.quant) tt (tail_text h) [] (tail_spelt h is) refl
     (spells_done (first, h.quant))))
 
-head_spelt : (h : Header) (begins : Bool) (first : ℕ) → IsHeader h → IsPlace h begins first
-    → Spells (head h begins) (first, h.quant) (head_text h begins first)
+head_spelt : (h : Header) (begins : Bool) (first : ℕ) → IsHeader h → IsSlicePlace h begins first
+    → Spells (head_of_slice h begins) (first, h.quant) (slice_head_text h begins first)
 head_spelt h true first is at =
     let e : first ≡ 0 = eqb-true first 0 at.at_zero in
-    subst (λ (n : ℕ). Spells (first_head h) (n, h.quant) (head_text h true n)) (sym e) (first_spelt h)
+    subst (λ (n : ℕ). Spells (first_head h) (n, h.quant) (slice_head_text h true n)) (sym e) (first_spelt h)
 head_spelt h false first is at = later_spelt h first is at.at_zero at.within
 
 -- ---- the macroblocks
@@ -144,12 +144,13 @@ texts_spelt laws a quant before (m ∷ mbs) w =
 -- ---- the slice
 
 slice_spelt : MbLaws → (h : Header) (begins : Bool) (first : ℕ) (mbs : List Mb) (padding : List Bool) → IsHeader h
-    → IsPlace h begins first
+    → IsSlicePlace h begins first
     → 0 < length mbs → first + length mbs ≤ mbs_of h.format → AreWritable (around h first) h.quant [] mbs
     → is_padding padding ≡ true
-    → IsSliceText h begins first mbs (head_text h begins first ++ (mbs_text (around h first) h.quant [] mbs ++ padding))
+    → IsSliceText h begins first mbs (slice_head_text h begins first ++ (mbs_text (around h first) h.quant [] mbs
+    ++ padding))
 slice_spelt laws h begins first mbs padding is at some within each zeros = record {
-  front = head_text h begins first;
+  front = slice_head_text h begins first;
   after = mbs_text (around h first) h.quant [] mbs ++ padding;
   quant = h.quant;
   parts = refl;
@@ -185,17 +186,18 @@ zeros_are_padding n = rw (
 
 -- ---- as a writer leaves it
 
-later_padded : MbLaws → (h : Header) (first : ℕ) (mbs : List Mb) → IsHeader h → IsPlace h false first
+later_padded : MbLaws → (h : Header) (first : ℕ) (mbs : List Mb) → IsHeader h → IsSlicePlace h false first
     → 0 < length mbs → first + length mbs ≤ mbs_of h.format → AreWritable (around h first) h.quant [] mbs
     → IsSliceText h false first mbs (padded (slice_text h false first mbs))
 later_padded laws h first mbs is at some within each =
     let n = length (slice_text h false first mbs) in
     let zeros : List Bool = spelled (to_byte n) 0 in
     let text = mbs_text (around h first) h.quant [] mbs in
-    subst (λ (t : List Bool). IsSliceText h false first mbs t) (sym (append_assoc (head_text h false first) text zeros))
+    subst (λ (t : List Bool). IsSliceText h false first mbs t)
+    (sym (append_assoc (slice_head_text h false first) text zeros))
     (slice_spelt laws h false first mbs zeros is at some within each (zeros_are_padding n))
 
-first_padded : MbLaws → (h : Header) (first : ℕ) (mbs : List Mb) → IsHeader h → IsPlace h true first
+first_padded : MbLaws → (h : Header) (first : ℕ) (mbs : List Mb) → IsHeader h → IsSlicePlace h true first
     → 0 < length mbs → first + length mbs ≤ mbs_of h.format → AreWritable (around h first) h.quant [] mbs
     → (text : List Bool) × (padded (slice_text h true first mbs) ≡ written_header h ++ text)
     × IsSliceText h true first mbs text
@@ -203,8 +205,8 @@ first_padded laws h first mbs is at some within each =
     let n = length (slice_text h true first mbs) in
     let zeros : List Bool = spelled (to_byte n) 0 in
     let text = mbs_text (around h first) h.quant [] mbs in (
-      head_text h true first ++ (text ++ zeros),
-      regroup (written_header h) (head_text h true first) text zeros,
+      slice_head_text h true first ++ (text ++ zeros),
+      regroup (written_header h) (slice_head_text h true first) text zeros,
       slice_spelt laws h true first mbs zeros is at some within each (zeros_are_padding n),
     )
   where
@@ -212,7 +214,7 @@ first_padded laws h first mbs is at some within each =
     regroup a b c d = simp (append_assoc)
 
 -- the text that is written of a slice is one of its texts
-pub are_spelt : MbLaws → AreSpelt
+pub are_spelt : MbLaws → AreSlicesSpelt
 are_spelt laws = record {
   text = slice_spelt laws;
   later = later_padded laws;

@@ -15,8 +15,8 @@ use Rattle.macroblock_layer.specs.Text.{mb}
 
 -- the least component for which 16 samples from `at` on refer to none below 0, and the greatest for which they refer to
 -- none past the end, both in the range of vectors (H.263, 6.1.1)
-abbrev pub least : ℕ → ℤ
-least at = int_max (neg_ℤ (pos 32)) (neg_ℤ (pos (2 * at)))
+abbrev pub least_component : ℕ → ℤ
+least_component at = int_max (neg_ℤ (pos 32)) (neg_ℤ (pos (2 * at)))
 
 abbrev pub most : ℕ → ℕ → ℤ
 most at size = int_min (pos 31) (pos (2 * (size - (at + 16))))
@@ -24,9 +24,9 @@ most at size = int_min (pos 31) (pos (2 * (size - (at + 16))))
 -- the reach of macroblock k of a picture
 abbrev pub reach_of : Format → ℕ → Reach
 reach_of f k = record {
-  left = least (16 * (k % columns_of f));
+  left = least_component (16 * (k % columns_of f));
   right = most (16 * (k % columns_of f)) (width_of f);
-  up = least (16 * (k / columns_of f));
+  up = least_component (16 * (k / columns_of f));
   down = most (16 * (k / columns_of f)) (height_of f);
 }
 

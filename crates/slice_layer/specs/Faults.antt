@@ -12,7 +12,7 @@ use Rattle.h263_bits.specs.Syntax.{Spells, reading}
 use Rattle.h263_bits.specs.Elements.{HasFault, IsFirstFault}
 use Rattle.picture_header.specs.declared.header.Header.{Header}
 use Rattle.slice_layer.specs.Around.{Around, around, next_mb}
-use Rattle.slice_layer.specs.Head.{address_bits, reference, first_head, place, tail, later_head, head}
+use Rattle.slice_layer.specs.Head.{address_bits, slice_reference, first_head, place, tail, later_head, head_of_slice}
 use Rattle.slice_layer.specs.Text.{is_padding, AreTexts, slice_at}
 use Rattle.slice_layer.specs.Written.{quant_after_all}
 
@@ -42,14 +42,15 @@ pub record PlaceFaults (f : Format) : Type 0 where
 pub record TailFaults : Type 0 where
   pub tri : (trp : Option ℕ) (gfid : ℕ)
       → gfid < 4 → HasFault (tail trp) (fields ((2, gfid) ∷ (1, 1) ∷ [])) faults.SliceReference 2
-  pub intra : HasFault (reference None) (fields ((1, 1) ∷ [])) faults.SliceReference 0
-  pub inter : (trp : ℕ) → HasFault (reference (Some trp)) (fields ((1, 0) ∷ [])) faults.SliceReference 0
+  pub intra : HasFault (slice_reference None) (fields ((1, 1) ∷ [])) faults.SliceReference 0
+  pub inter : (trp : ℕ) → HasFault (slice_reference (Some trp)) (fields ((1, 0) ∷ [])) faults.SliceReference 0
   pub other : (trp n : ℕ) → n < 1024 → (n ≡ trp → ⊥)
-      → HasFault (reference (Some trp)) (fields ((1, 1) ∷ (10, n) ∷ [])) faults.SliceReference 1
+      → HasFault (slice_reference (Some trp)) (fields ((1, 1) ∷ (10, n) ∷ [])) faults.SliceReference 1
   pub of_reference : (trp : Option ℕ) (gfid : ℕ) (text : List Bool) (kind : FaultKind) (place : ℕ)
-      → gfid < 4 → HasFault (reference trp) text kind place
+      → gfid < 4 → HasFault (slice_reference trp) text kind place
       → HasFault (tail trp) (fields ((2, gfid) ∷ []) ++ (fields ((1, 0) ∷ []) ++ text)) kind (2 + (1 + place))
-  pub bci : (trp : Option ℕ) (gfid n : ℕ) (a : List Bool) → gfid < 4 → n < 4 → (n ≡ 1 → ⊥) → Spells (reference trp) tt a
+  pub bci : (trp : Option ℕ) (gfid n : ℕ) (a : List Bool) → gfid < 4 → n < 4 → (n ≡ 1 → ⊥)
+      → Spells (slice_reference trp) tt a
       → HasFault (tail trp)
       (fields ((2, gfid) ∷ []) ++ (fields ((1, 0) ∷ []) ++ (a ++ fields ((2, n) ∷ []))))
       faults.Bci (2 + (1 + (length a + 0)))
@@ -72,22 +73,22 @@ HasSliceFault h begins text kind place =
 pub record BodyFaults (h : Header) (begins : Bool) : Type 0 where
   -- in the header
   pub of_head : (text : List Bool) (kind : FaultKind) (place : ℕ)
-      → HasFault (head h begins) text kind place → HasSliceFault h begins text kind place
+      → HasFault (head_of_slice h begins) text kind place → HasSliceFault h begins text kind place
   -- padding after the header: no macroblock was read
   pub empty : (first quant at : ℕ) (front padding : List Bool)
-      → Spells (head h begins) (first, quant) front → is_padding padding ≡ true
+      → Spells (head_of_slice h begins) (first, quant) front → is_padding padding ≡ true
       → slice_at h begins (record { at = at; bits = front ++ padding })
       ≡ Err (record { kind = faults.Empty; at = at + length front })
   -- more than padding after the picture's last macroblock
   pub trailing : (first quant at : ℕ) (mbs : List Mb) (front texts rest : List Bool)
-      → Spells (head h begins) (first, quant) front → AreTexts (around h first) quant [] mbs texts
+      → Spells (head_of_slice h begins) (first, quant) front → AreTexts (around h first) quant [] mbs texts
       → length mbs ≡ mbs_of h.format - first → is_padding rest ≡ false
       → slice_at h begins (record { at = at; bits = front ++ (texts ++ rest) })
       ≡ Err (record { kind = faults.Trailing; at = at + length front + length texts })
   -- in a macroblock, which is no padding, after those before it
   pub of_mb : (first quant : ℕ)
       (mbs : List Mb) (front texts text : List Bool) (kind : FaultKind) (place : ℕ)
-      → Spells (head h begins) (first, quant) front → AreTexts (around h first) quant [] mbs texts
+      → Spells (head_of_slice h begins) (first, quant) front → AreTexts (around h first) quant [] mbs texts
       → length mbs < mbs_of h.format - first
       → HasFault (next_mb (around h first) (quant_after_all quant mbs) mbs) text kind place
       → ((rest : List Bool) → is_padding (text ++ rest) ≡ false)
@@ -117,9 +118,9 @@ pub record IsBodyFault (a : Around) (quant room : ℕ) (before : List Mb) (b : B
 -- a fault in the header, or after it
 abbrev pub IsSliceFault : Header → Bool → Bits → Fault → Type 0
 IsSliceFault h begins b fault =
-    IsFirstFault (head h begins) b fault
+    IsFirstFault (head_of_slice h begins) b fault
     ⊎ ((first quant : ℕ) × (front rest : List Bool)
-    × Spells (head h begins) (first, quant) front × (b.bits ≡ front ++ rest)
+    × Spells (head_of_slice h begins) (first, quant) front × (b.bits ≡ front ++ rest)
     × IsBodyFault (around h first) quant
     (mbs_of h.format - first) [] (record { at = b.at + length front; bits = rest }) fault)
 
@@ -129,7 +130,7 @@ pub record SliceFaults : Type 0 where
       → (slice_at h begins b ≡ Err fault) ↔ IsSliceFault h begins b fault
   -- in the header the first fault is the one of the field after the longest list of fields without a fault
   pub head : (h : Header) (begins : Bool) (b : Bits) (fault : Fault)
-      → (reading (head h begins) b ≡ Err fault) ↔ IsFirstFault (head h begins) b fault
+      → (reading (head_of_slice h begins) b ≡ Err fault) ↔ IsFirstFault (head_of_slice h begins) b fault
   pub first_head : (h : Header) → FirstHeadFaults h
   pub places : (f : Format) → PlaceFaults f
   pub tails : TailFaults

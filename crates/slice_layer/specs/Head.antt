@@ -19,9 +19,9 @@ abbrev pub allowed_first : Format → Allowed ℕ
 allowed_first f n = if n == 0 then Some faults.Address else (if nat_lt n (mbs_of f) then None else Some faults.Address)
 
 -- TRPI, and in P the picture header's TRP again (Annex N)
-unfoldable pub reference : Option ℕ → Syntax (Unit {0})
-reference None = field 1 (only 0 faults.SliceReference) λ refers. done tt
-reference (Some trp) =
+unfoldable pub slice_reference : Option ℕ → Syntax (Unit {0})
+slice_reference None = field 1 (only 0 faults.SliceReference) λ refers. done tt
+slice_reference (Some trp) =
     field 1 (only 1 faults.SliceReference) λ refers.
     field 10 (only trp faults.SliceReference) λ again.
     done tt
@@ -50,7 +50,7 @@ unfoldable pub tail : Option ℕ → Syntax (Unit {0})
 tail trp =
     field 2 any λ gfid.
     field 1 (only 0 faults.SliceReference) λ tri.
-    part (reference trp) any λ again.
+    part (slice_reference trp) any λ again.
     field 2 (only 1 faults.Bci) λ bci.
     done tt
 
@@ -62,6 +62,6 @@ later_head h =
 
 -- the first macroblock and the quantiser of a slice of the picture with this header, which stands
 -- just before or doesn't
-abbrev pub head : Header → Bool → Syntax (ℕ × ℕ)
-head h true = first_head h
-head h false = later_head h
+abbrev pub head_of_slice : Header → Bool → Syntax (ℕ × ℕ)
+head_of_slice h true = first_head h
+head_of_slice h false = later_head h

@@ -14,7 +14,7 @@ use Rattle.picture_header.specs.Written.{written_header, written_bits, reference
 use Rattle.slice_layer.specs.Around.{around, reach_of}
 use Rattle.slice_layer.specs.Head.{address_bits}
 use Rattle.slice_layer.specs.Text.{is_padding, IsSliceText, slice_at}
-use Rattle.slice_layer.specs.Written.{head_text, opening_text, mbs_text, slice_text, padded, bytes_of, quant_after_all, IsPlace, IsWritable, AreWritable}
+use Rattle.slice_layer.specs.Written.{slice_head_text, opening_text, mbs_text, slice_text, padded, bytes_filled_by, quant_after_all, IsSlicePlace, IsWritable, AreWritable}
 
 -- bits are read as a slice exactly where they are its text
 abbrev pub AreRead : Type 0
@@ -24,19 +24,19 @@ AreRead =
 
 -- What is written of a slice, with fewer than 8 zero bits after it, is a text of it, where its macroblocks are one at
 -- least, all in the picture, and each may be written after those before it.
-pub record AreSpelt : Type 0 where
+pub record AreSlicesSpelt : Type 0 where
   pub text : (h : Header) (begins : Bool) (first : ℕ) (mbs : List Mb) (padding : List Bool)
-      → IsHeader h → IsPlace h begins first → 0 < length mbs → first + length mbs ≤ mbs_of h.format
+      → IsHeader h → IsSlicePlace h begins first → 0 < length mbs → first + length mbs ≤ mbs_of h.format
       → AreWritable (around h first) h.quant [] mbs → is_padding padding ≡ true
       → IsSliceText h begins first mbs
-      (head_text h begins first ++ (mbs_text (around h first) h.quant [] mbs ++ padding))
+      (slice_head_text h begins first ++ (mbs_text (around h first) h.quant [] mbs ++ padding))
   -- so is what a writer leaves of a later slice, and of the first one, after the picture header
   pub later : (h : Header) (first : ℕ) (mbs : List Mb)
-      → IsHeader h → IsPlace h false first → 0 < length mbs → first + length mbs ≤ mbs_of h.format
+      → IsHeader h → IsSlicePlace h false first → 0 < length mbs → first + length mbs ≤ mbs_of h.format
       → AreWritable (around h first) h.quant [] mbs
       → IsSliceText h false first mbs (padded (slice_text h false first mbs))
   pub first : (h : Header) (first : ℕ) (mbs : List Mb)
-      → IsHeader h → IsPlace h true first → 0 < length mbs → first + length mbs ≤ mbs_of h.format
+      → IsHeader h → IsSlicePlace h true first → 0 < length mbs → first + length mbs ≤ mbs_of h.format
       → AreWritable (around h first) h.quant [] mbs
       → (text : List Bool) × (padded (slice_text h true first mbs) ≡ written_header h ++ text)
       × IsSliceText h true first mbs text
@@ -44,7 +44,7 @@ pub record AreSpelt : Type 0 where
   pub padding : (n : ℕ) → is_padding (spelled (to_byte n) 0) ≡ true
 
 -- how long it is, what stands before a slice's macroblocks, and a slice of one macroblock at most
-pub record AreShort : Type 0 where
+pub record AreSlicesShort : Type 0 where
   pub begins : (h : Header) (first : ℕ)
       → length (opening_text h true first) ≡ written_bits h + (2 + address_bits h.format)
   pub later : (h : Header) (first : ℕ)
@@ -52,7 +52,7 @@ pub record AreShort : Type 0 where
   pub opening : (h : Header) (begins : Bool) (first : ℕ) → IsHeader h
       → length (opening_text h begins first) ≤ 262
   pub one : (h : Header) (begins : Bool) (first : ℕ) (m : Mb) → IsHeader h → HasWholeBlocks m
-      → bytes_of (slice_text h begins first (m ∷ [])) ≤ 1095
+      → bytes_filled_by (slice_text h begins first (m ∷ [])) ≤ 1095
 
 -- macroblocks may be written one after the other where each one may after those before it
 pub record IsOneMore : Type 0 where
@@ -68,7 +68,7 @@ AreReached = (f : Format) (k : ℕ) (x y : ℤ) → k < mbs_of f → InReach f k
 
 pub record SliceLaws : Type 0 where
   pub read : AreRead
-  pub spelt : AreSpelt
-  pub short : AreShort
+  pub spelt : AreSlicesSpelt
+  pub short : AreSlicesShort
   pub one_more : IsOneMore
   pub reach : AreReached

@@ -11,7 +11,7 @@ use Rattle.h263_bits.specs.Reading.{Bits, first_fault, ◌>>=◌}
 use Rattle.h263_bits.specs.Syntax.{Spells, reading}
 use Rattle.picture_header.specs.declared.header.Header.{Header}
 use Rattle.slice_layer.specs.Around.{Around, around, quant_after, next_mb}
-use Rattle.slice_layer.specs.Head.{head}
+use Rattle.slice_layer.specs.Head.{head_of_slice}
 
 -- fewer than 8 bits, all 0
 abbrev pub is_padding : List Bool → Bool
@@ -43,7 +43,7 @@ pub record IsSliceText (h : Header) (begins : Bool) (first : ℕ) (mbs : List Mb
   pub after : List Bool
   pub quant : ℕ
   pub parts : bits ≡ front ++ after
-  pub opened : Spells (head h begins) (first, quant) front
+  pub opened : Spells (head_of_slice h begins) (first, quant) front
   pub body : IsBody (around h first) quant (mbs_of h.format - first) mbs after
 
 -- ---- what a reader finds
@@ -62,16 +62,16 @@ mbs_at a (suc room) quant before b =
     else (reading (next_mb a quant before) b >>= λ x. mbs_at a room (quant_after quant x.0) (before ++ x.0 ∷ []) x.1)
 
 -- the first macroblock, by its number, with those after it
-abbrev pub numbered : ℕ → Result (List Mb) Fault → Result (ℕ × List Mb) Fault
-numbered first (Ok mbs) = Ok (first, mbs)
-numbered first (Err fault) = Err fault
+abbrev pub first_with : ℕ → Result (List Mb) Fault → Result (ℕ × List Mb) Fault
+first_with first (Ok mbs) = Ok (first, mbs)
+first_with first (Err fault) = Err fault
 
 abbrev pub body_at : Header → ℕ → ℕ → Bits → Result (ℕ × List Mb) Fault
-body_at h first quant b = numbered first (mbs_at (around h first) (mbs_of h.format - first) quant [] b)
+body_at h first quant b = first_with first (mbs_at (around h first) (mbs_of h.format - first) quant [] b)
 
 -- the slice that the bits are, or the first fault at its place
 unfoldable pub slice_at : Header → Bool → Bits → Result (ℕ × List Mb) Fault
-slice_at h begins b = reading (head h begins) b >>= λ x. body_at h x.0.0 x.0.1 x.1
+slice_at h begins b = reading (head_of_slice h begins) b >>= λ x. body_at h x.0.0 x.0.1 x.1
 
 -- the first fault of a slice, if there is one
 abbrev pub slice_fault : Header → Bool → Bits → Option Fault

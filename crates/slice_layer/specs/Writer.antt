@@ -9,51 +9,51 @@ use Rattle.slice_layer.specs.declared.writing.SliceWriter.{SliceWriter}
 use Rattle.slice_layer.specs.declared.writing.Added.{Added}
 use Rattle.slice_layer.specs.declared.writing.Added.TheVariants.{Fits, Full}
 use Rattle.slice_layer.specs.Around.{vectors_of}
-use Rattle.slice_layer.specs.Written.{slice_text, quant_after_all, IsFront}
+use Rattle.slice_layer.specs.Written.{slice_text, quant_after_all, IsPaddedFront}
 
 -- the kind and the format of the picture
-abbrev pub kind_of : SliceWriter → Kind
-kind_of w = w.kind
+abbrev pub slice_kind : SliceWriter → Kind
+slice_kind w = w.kind
 
-abbrev pub format_of : SliceWriter → Format
-format_of w = w.format
+abbrev pub slice_format : SliceWriter → Format
+slice_format w = w.format
 
 -- the numbers of the slice's first macroblock and of the next one
-abbrev pub first_of : SliceWriter → ℕ
-first_of w = w.first
+abbrev pub first_mb_of : SliceWriter → ℕ
+first_mb_of w = w.first
 
-abbrev pub next_of : SliceWriter → ℕ
-next_of w = w.next
+abbrev pub next_mb_of : SliceWriter → ℕ
+next_mb_of w = w.next
 
 -- the quantiser in force
 abbrev pub quant_of : SliceWriter → ℕ
 quant_of w = w.quant
 
 -- the bytes that were lent, as they are now, and the name of their loan
-abbrev pub bytes_in : SliceWriter → List ℕ
-bytes_in w = w.bytes.now
+abbrev pub bytes_lent : SliceWriter → List ℕ
+bytes_lent w = w.bytes.now
 
-abbrev pub loan_of : SliceWriter → GName
-loan_of w = w.bytes.ghost_name
+abbrev pub writer_loan : SliceWriter → GName
+writer_loan w = w.bytes.ghost_name
 
 -- a writer goes on with its slice: of the same picture, from the same macroblock on, in the same loan
 pub record GoesOn (old new : SliceWriter) : Type 0 where
-  pub kind : kind_of new ≡ kind_of old
-  pub format : format_of new ≡ format_of old
-  pub first : first_of new ≡ first_of old
-  pub loan : loan_of new ≡ loan_of old
+  pub kind : slice_kind new ≡ slice_kind old
+  pub format : slice_format new ≡ slice_format old
+  pub first : first_mb_of new ≡ first_mb_of old
+  pub loan : writer_loan new ≡ writer_loan old
 
 -- the writer holds these macroblocks of the slice that begins with macroblock `first`: the bytes begin with their text
 pub record HoldsSlice (w : SliceWriter) (h : Header) (begins : Bool) (first : ℕ) (mbs : List Mb) : Type 0 where
-  pub text : IsFront (slice_text h begins first mbs) (bytes_in w)
+  pub text : IsPaddedFront (slice_text h begins first mbs) (bytes_lent w)
   pub len : w.len ≡ length (slice_text h begins first mbs)
-  pub kind : kind_of w ≡ h.kind
-  pub format : format_of w ≡ h.format
-  pub from : first_of w ≡ first
-  pub next : next_of w ≡ first + length mbs
+  pub kind : slice_kind w ≡ h.kind
+  pub format : slice_format w ≡ h.format
+  pub from : first_mb_of w ≡ first
+  pub next : next_mb_of w ≡ first + length mbs
   pub quant : quant_of w ≡ quant_after_all h.quant mbs
-  pub vectors : take (next_of w) w.vectors ≡ vectors_of first mbs
+  pub vectors : take (next_mb_of w) w.vectors ≡ vectors_of first mbs
 
 -- whether a text of this many bytes fits
-abbrev pub answer : ℕ → ℕ → Added
-answer room bytes = if nat_lt room bytes then Full else Fits
+abbrev pub added_within : ℕ → ℕ → Added
+added_within room bytes = if nat_lt room bytes then Full else Fits

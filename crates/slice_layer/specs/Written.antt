@@ -30,13 +30,13 @@ abbrev pub tail_text : Header → List Bool
 tail_text h = fields ((2, gfid h) ∷ (1, 0) ∷ []) ++ (fields (reference_fields h.trp) ++ fields ((2, 1) ∷ []))
 
 -- the header of a slice that begins with macroblock `first`; where it begins a picture, after the picture header
-abbrev pub head_text : Header → Bool → ℕ → List Bool
-head_text h true first = fields (first_fields h)
-head_text h false first = fields (place_fields h first) ++ tail_text h
+abbrev pub slice_head_text : Header → Bool → ℕ → List Bool
+slice_head_text h true first = fields (first_fields h)
+slice_head_text h false first = fields (place_fields h first) ++ tail_text h
 
 abbrev pub opening_text : Header → Bool → ℕ → List Bool
-opening_text h true first = written_header h ++ head_text h true first
-opening_text h false first = head_text h false first
+opening_text h true first = written_header h ++ slice_head_text h true first
+opening_text h false first = slice_head_text h false first
 
 -- macroblocks one after the other, after earlier ones
 unfoldable pub mbs_text : Around → ℕ → List Mb → List Mb → List Bool
@@ -53,12 +53,12 @@ abbrev pub padded : List Bool → List Bool
 padded text = text ++ spelled (to_byte (length text)) 0
 
 -- how many bytes a text takes
-abbrev pub bytes_of : List Bool → ℕ
-bytes_of text = (length text + to_byte (length text)) / 8
+abbrev pub bytes_filled_by : List Bool → ℕ
+bytes_filled_by text = (length text + to_byte (length text)) / 8
 
 -- bytes begin with a text, padded up to a whole byte
-abbrev pub IsFront : List Bool → List ℕ → Type 0
-IsFront text bytes = bits_of (take (bytes_of text) bytes) ≡ padded text
+abbrev pub IsPaddedFront : List Bool → List ℕ → Type 0
+IsPaddedFront text bytes = bits_of (take (bytes_filled_by text) bytes) ≡ padded text
 
 -- the quantiser after macroblocks
 abbrev pub quant_after_all : ℕ → List Mb → ℕ
@@ -67,7 +67,7 @@ quant_after_all quant (m ∷ mbs) = quant_after_all (quant_after quant m) mbs
 
 -- where a slice may begin: with the picture's first macroblock after the picture header, and with
 -- a later one by itself
-pub record IsPlace (h : Header) (begins : Bool) (first : ℕ) : Type 0 where
+pub record IsSlicePlace (h : Header) (begins : Bool) (first : ℕ) : Type 0 where
   pub within : first < mbs_of h.format
   pub at_zero : (first == 0) ≡ begins
 

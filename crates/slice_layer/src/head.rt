@@ -5,7 +5,7 @@ ghost use Rattle.h263_bits.specs.Syntax.{field_at, reading};
 ghost use Rattle.h263_types.specs.Blocks.{IsQuant};
 ghost use Rattle.h263_types.specs.Sizes.{mbs_of};
 ghost use Rattle.picture_header.specs.Ranges.{IsHeader};
-ghost use Rattle.slice_layer.specs.Head.{address_bits, allowed_first, reference, first_head, place, tail, later_head, head};
+ghost use Rattle.slice_layer.specs.Head.{address_bits, allowed_first, slice_reference, first_head, place, tail, later_head, head_of_slice};
 
 use crate::shared::address_bits;
 use h263_bits::{BitReader, Fault, FaultKind};
@@ -56,9 +56,9 @@ fn read_place(reader: &mut BitReader<'_>, format: Format) -> Result<(u32, u8), F
 }
 
 // TRPI, and in P the picture header's TRP again.
-#[tactic(auto, unfolding(crate::specs::Head::reference, h263_bits::specs::Syntax::reading))]
+#[tactic(auto, unfolding(crate::specs::Head::slice_reference, h263_bits::specs::Syntax::reading))]
 fn read_reference(reader: &mut BitReader<'_>, trp: Option<u16>) -> Result<(), Fault>
-    ensures { Gives (λ _. tt) result reader.new (reading (reference trp) reader.old) }
+    ensures { Gives (λ _. tt) result reader.new (reading (slice_reference trp) reader.old) }
 {
     match trp {
         None => {
@@ -105,7 +105,7 @@ pub fn read_head(
 ) -> Result<(u32, u8), Fault>
     requires { IsHeader header.now }
     ensures reads { Gives
-        (λ x. (x.0, x.1)) result reader.new (reading (head header.now begins) reader.old) }
+        (λ x. (x.0, x.1)) result reader.new (reading (head_of_slice header.now begins) reader.old) }
     ensures below { IfOk result (λ x. x.0 < mbs_of header.now.format) }
     ensures range { IfOk result (λ x. IsQuant x.1) }
 {

@@ -5,7 +5,7 @@ ghost use Rattle.h263_types.specs.declared.blocks.Mb.{Mb};
 ghost use Rattle.picture_header.specs.declared.header.Header.{Header};
 ghost use Rattle.slice_layer.specs.Text.{IsSliceText, slice_fault};
 ghost use Rattle.slice_layer.specs.Faults.{SliceFaults};
-ghost use Rattle.slice_layer.specs.Laws.{AreRead, AreSpelt, AreShort, IsOneMore, AreReached, SliceLaws};
+ghost use Rattle.slice_layer.specs.Laws.{AreRead, AreSlicesSpelt, AreSlicesShort, IsOneMore, AreReached, SliceLaws};
 
 /// Bits are read as a slice exactly where they are its text, and there is no first fault exactly
 /// where they are the text of one.
@@ -39,7 +39,7 @@ pub fn first_faults()
 
 /// What is written of a slice is a text of it.
 pub fn written_is_text()
-    ensures { AreSpelt }
+    ensures { AreSlicesSpelt }
 {
     macroblock_layer::laws::in_a_syntax();
 }
@@ -47,7 +47,7 @@ pub fn written_is_text()
 /// What stands before a slice's macroblocks has 262 bits at most, and a slice of one macroblock has
 /// 1,095 bytes at most.
 pub fn longest_text()
-    ensures { AreShort }
+    ensures { AreSlicesShort }
 {
     picture_header::laws::in_a_syntax();
     macroblock_layer::laws::in_a_syntax();

@@ -48,8 +48,8 @@ pub struct SliceWriter<'a> {
 }
 
 impl<'a> SliceWriter<'a> {
-    ghost use Rattle.slice_layer.specs.Written.{slice_text, padded, bytes_of, IsPlace, IsFront};
-    ghost use Rattle.slice_layer.specs.Writer.{kind_of, format_of, first_of, next_of, quant_of, bytes_in, loan_of, GoesOn, HoldsSlice, answer};
+    ghost use Rattle.slice_layer.specs.Written.{slice_text, padded, bytes_filled_by, IsSlicePlace, IsPaddedFront};
+    ghost use Rattle.slice_layer.specs.Writer.{slice_kind, slice_format, first_mb_of, next_mb_of, quant_of, bytes_lent, writer_loan, GoesOn, HoldsSlice, added_within};
 
     /// A writer of the slice that begins with macroblock `first`. It writes the slice header,
     /// after the picture header where the slice begins a picture.
@@ -57,10 +57,10 @@ impl<'a> SliceWriter<'a> {
         requires room { 1150 ≤ length bytes.old }
         requires short { length bytes.old ≤ 65535 }
         requires header { IsHeader header.now }
-        requires place { IsPlace header.now begins first }
+        requires place { IsSlicePlace header.now begins first }
         ensures holds { HoldsSlice result header.now begins first [] }
-        ensures loan { loan_of result ≡ bytes.entry.ghost_name }
-        ensures room { length (bytes_in result) ≡ length bytes.old }
+        ensures loan { writer_loan result ≡ bytes.entry.ghost_name }
+        ensures room { length (bytes_lent result) ≡ length bytes.old }
     {
         let len = write_front(bytes, header, begins, first);
         SliceWriter {
@@ -77,10 +77,10 @@ impl<'a> SliceWriter<'a> {
 
     // The prediction of the next macroblock's vector; any vector does where it has none.
     fn predictor(&self, mb: &Mb) -> Vector
-        ensures { mb_text (kind_of self.now) (quant_of self.now) result mb.now
-            ≡ mb_text (kind_of self.now) (quant_of self.now)
-            (predictor_of (take (next_of self.now) self.now.vectors)
-            (first_of self.now) (next_of self.now) (columns_of (format_of self.now))) mb.now }
+        ensures { mb_text (slice_kind self.now) (quant_of self.now) result mb.now
+            ≡ mb_text (slice_kind self.now) (quant_of self.now)
+            (predictor_of (take (next_mb_of self.now) self.now.vectors)
+            (first_mb_of self.now) (next_mb_of self.now) (columns_of (slice_format self.now))) mb.now }
     {
         match mb {
             Mb::Skip => Vector::ZERO,
@@ -96,8 +96,8 @@ impl<'a> SliceWriter<'a> {
 
     // The bits after the last whole byte.
     fn last_bits(&self) -> LastBits
-        ensures bits { take (8 * (self.now.len / 8)) (bits_of (bytes_in self.now))
-            ++ spelled result.count result.number ≡ take self.now.len (bits_of (bytes_in self.now)) }
+        ensures bits { take (8 * (self.now.len / 8)) (bits_of (bytes_lent self.now))
+            ++ spelled result.count result.number ≡ take self.now.len (bits_of (bytes_lent self.now)) }
         ensures below { result.number < 2 ^ result.count }
         ensures count { result.count ≡ self.now.len % 8 }
     {
@@ -109,14 +109,14 @@ impl<'a> SliceWriter<'a> {
     // What the macroblocks after this one depend on.
     fn keep(&mut self, mb: &Mb)
         requires mb { IsMb mb.now }
-        requires left { next_of self.old < 396 }
+        requires left { next_mb_of self.old < 396 }
         ensures slice { GoesOn self.old self.new }
-        ensures bytes { bytes_in self.new ≡ bytes_in self.old }
+        ensures bytes { bytes_lent self.new ≡ bytes_lent self.old }
         ensures len { self.new.len ≡ self.old.len }
-        ensures next { next_of self.new ≡ next_of self.old + 1 }
+        ensures next { next_mb_of self.new ≡ next_mb_of self.old + 1 }
         ensures quant { quant_of self.new ≡ quant_after (quant_of self.old) mb.now }
-        ensures vectors { take (next_of self.new) self.new.vectors
-            ≡ take (next_of self.old) self.old.vectors ++ vector_of mb.now ∷ [] }
+        ensures vectors { take (next_mb_of self.new) self.new.vectors
+            ≡ take (next_mb_of self.old) self.old.vectors ++ vector_of mb.now ∷ [] }
     {
         self.vectors[self.next as usize] = vector_of(mb);
         self.quant = quant_after(self.quant, mb);
@@ -128,25 +128,25 @@ impl<'a> SliceWriter<'a> {
     /// `apart`, which a caller makes once for many macroblocks.
     pub fn add(&mut self, mb: &Mb, apart: &mut MbRoom) -> Added
         requires mb { IsMb mb.now }
-        requires kind { IsOfKind (kind_of self.old) mb.now }
+        requires kind { IsOfKind (slice_kind self.old) mb.now }
         requires step { IsStepped (quant_of self.old) mb.now }
-        requires left { next_of self.old < mbs_of (format_of self.old) }
+        requires left { next_mb_of self.old < mbs_of (slice_format self.old) }
         ensures answer { (h : Header) (begins : Bool) (first : ℕ) (mbs : List Mb)
-            → HoldsSlice self.old h begins first mbs → result ≡ answer (length (bytes_in self.old))
-            (bytes_of (slice_text h begins first (mbs ++ mb.now ∷ []))) }
+            → HoldsSlice self.old h begins first mbs → result ≡ added_within (length (bytes_lent self.old))
+            (bytes_filled_by (slice_text h begins first (mbs ++ mb.now ∷ []))) }
         ensures fits { (h : Header) (begins : Bool) (first : ℕ) (mbs : List Mb)
             → HoldsSlice self.old h begins first mbs
             → result ≡ Added.Fits → HoldsSlice self.new h begins first (mbs ++ mb.now ∷ []) }
         ensures full { result ≡ Added.Full → self.new ≡ self.old }
         // There is room for the first macroblock.
         ensures first { (h : Header) (begins : Bool) (first : ℕ) → IsHeader h → 1150
-            ≤ length (bytes_in self.old) → HoldsSlice self.old h begins first [] → result ≡ Added.Fits }
+            ≤ length (bytes_lent self.old) → HoldsSlice self.old h begins first [] → result ≡ Added.Fits }
         ensures slice { GoesOn self.old self.new }
-        ensures next { result ≡ Added.Fits → next_of self.new ≡ next_of self.old + 1 }
+        ensures next { result ≡ Added.Fits → next_mb_of self.new ≡ next_mb_of self.old + 1 }
         ensures quant { result ≡ Added.Fits
             → quant_of self.new ≡ quant_after (quant_of self.old) mb.now }
         ensures whole { HasWholeBlocks mb.now }
-        ensures room { length (bytes_in self.new) ≡ length (bytes_in self.old) }
+        ensures room { length (bytes_lent self.new) ≡ length (bytes_lent self.old) }
     {
         self.add_marked(&MarkedMb::of(mb), apart)
     }
@@ -156,25 +156,25 @@ impl<'a> SliceWriter<'a> {
     pub fn add_marked(&mut self, mb: &MarkedMb, apart: &mut MbRoom) -> Added
         requires mb { IsMb mb.now.mb }
         requires marks { IsMarked mb.now }
-        requires kind { IsOfKind (kind_of self.old) mb.now.mb }
+        requires kind { IsOfKind (slice_kind self.old) mb.now.mb }
         requires step { IsStepped (quant_of self.old) mb.now.mb }
-        requires left { next_of self.old < mbs_of (format_of self.old) }
+        requires left { next_mb_of self.old < mbs_of (slice_format self.old) }
         ensures answer { (h : Header) (begins : Bool) (first : ℕ) (mbs : List Mb)
-            → HoldsSlice self.old h begins first mbs → result ≡ answer (length (bytes_in self.old))
-            (bytes_of (slice_text h begins first (mbs ++ mb.now.mb ∷ []))) }
+            → HoldsSlice self.old h begins first mbs → result ≡ added_within (length (bytes_lent self.old))
+            (bytes_filled_by (slice_text h begins first (mbs ++ mb.now.mb ∷ []))) }
         ensures fits { (h : Header) (begins : Bool) (first : ℕ) (mbs : List Mb)
             → HoldsSlice self.old h begins first mbs
             → result ≡ Added.Fits → HoldsSlice self.new h begins first (mbs ++ mb.now.mb ∷ []) }
         ensures full { result ≡ Added.Full → self.new ≡ self.old }
         // There is room for the first macroblock.
         ensures first { (h : Header) (begins : Bool) (first : ℕ) → IsHeader h → 1150
-            ≤ length (bytes_in self.old) → HoldsSlice self.old h begins first [] → result ≡ Added.Fits }
+            ≤ length (bytes_lent self.old) → HoldsSlice self.old h begins first [] → result ≡ Added.Fits }
         ensures slice { GoesOn self.old self.new }
-        ensures next { result ≡ Added.Fits → next_of self.new ≡ next_of self.old + 1 }
+        ensures next { result ≡ Added.Fits → next_mb_of self.new ≡ next_mb_of self.old + 1 }
         ensures quant { result ≡ Added.Fits
             → quant_of self.new ≡ quant_after (quant_of self.old) mb.now.mb }
         ensures whole { HasWholeBlocks mb.now.mb }
-        ensures room { length (bytes_in self.new) ≡ length (bytes_in self.old) }
+        ensures room { length (bytes_lent self.new) ≡ length (bytes_lent self.old) }
     {
         picture_header_laws::in_a_syntax();
         let predictor = self.predictor(&mb.mb);
@@ -194,14 +194,14 @@ impl<'a> SliceWriter<'a> {
     /// Ends the slice with zero bits up to a whole byte. Answers how many bytes it has: the first
     /// ones of those that were lent.
     pub fn finish(self) -> u32
-        requires some { first_of self < next_of self }
+        requires some { first_mb_of self < next_mb_of self }
         ensures bytes { (h : Header) (begins : Bool) (first : ℕ) (mbs : List Mb) → HoldsSlice
-            self.entry h begins first mbs → result ≡ bytes_of (slice_text h begins first mbs) }
+            self.entry h begins first mbs → result ≡ bytes_filled_by (slice_text h begins first mbs) }
         ensures text { (h : Header) (begins : Bool) (first : ℕ) (mbs : List Mb)
             → HoldsSlice self.entry h begins first mbs
             → bits_of (take result self.exit.0.now) ≡ padded (slice_text h begins first mbs) }
-        ensures same { self.exit.0.now ≡ bytes_in self.entry }
-        ensures within { result ≤ length (bytes_in self.entry) }
+        ensures same { self.exit.0.now ≡ bytes_lent self.entry }
+        ensures within { result ≤ length (bytes_lent self.entry) }
     {
         (self.len + 7) / 8
     }

@@ -6,7 +6,7 @@ ghost use Rattle.h263_types.specs.Sizes.{mbs_of};
 ghost use Rattle.picture_header.specs.Ranges.{HasTenBits, IsHeader};
 ghost use Rattle.picture_header.specs.Written.{reference_bits};
 ghost use Rattle.slice_layer.specs.Head.{address_bits};
-ghost use Rattle.slice_layer.specs.Written.{gfid, first_fields, place_fields, tail_text, opening_text, IsPlace};
+ghost use Rattle.slice_layer.specs.Written.{gfid, first_fields, place_fields, tail_text, opening_text, IsSlicePlace};
 
 use crate::shared::address_bits;
 use h263_bits::BitWriter;
@@ -84,7 +84,7 @@ fn write_beginning(writer: &mut BitWriter<'_>, header: &Header)
 /// most.
 pub fn write_opening(writer: &mut BitWriter<'_>, header: &Header, begins: bool, first: u32)
     requires header { IsHeader header.now }
-    requires place { IsPlace header.now begins first }
+    requires place { IsSlicePlace header.now begins first }
     requires room { len_of writer.old + 262 ≤ room_of writer.old }
     ensures bits { Appends writer.old writer.new (opening_text header.now begins first) }
     ensures len { len_of writer.new

@@ -6,7 +6,7 @@ ghost use Rattle.h263_types.specs.Blocks.{IsQuant, IsMb, IsOfKind, HasWholeBlock
 ghost use Rattle.picture_header.specs.Ranges.{IsHeader};
 ghost use Rattle.h263_types.specs.Marks.{IsMarked};
 ghost use Rattle.macroblock_layer.specs.Written.{mb_text, IsStepped};
-ghost use Rattle.slice_layer.specs.Written.{opening_text, IsPlace, IsFront};
+ghost use Rattle.slice_layer.specs.Written.{opening_text, IsSlicePlace, IsPaddedFront};
 
 use crate::writing_head::write_opening;
 use h263_bits::BitWriter;
@@ -31,8 +31,8 @@ pub fn write_front(bytes: &mut [u8], header: &Header, begins: bool, first: u32) 
     requires room { 1150 ≤ length bytes.old }
     requires short { length bytes.old ≤ 65535 }
     requires header { IsHeader header.now }
-    requires place { IsPlace header.now begins first }
-    ensures text { IsFront (opening_text header.now begins first) bytes.new }
+    requires place { IsSlicePlace header.now begins first }
+    ensures text { IsPaddedFront (opening_text header.now begins first) bytes.new }
     ensures len { result ≡ length (opening_text header.now begins first) }
     ensures few { result ≤ 262 }
 {
@@ -79,7 +79,7 @@ pub fn write_apart(
     requires marks { IsMarked mb.now }
     requires kind { IsOfKind kind mb.now.mb }
     requires step { IsStepped quant mb.now.mb }
-    ensures text { IsFront
+    ensures text { IsPaddedFront
         (spelled last.count last.number ++ mb_text kind quant predictor mb.now.mb) bytes.new }
     ensures len { result ≡ last.count + length (mb_text kind quant predictor mb.now.mb) }
     ensures short { result ≤ 8499 }

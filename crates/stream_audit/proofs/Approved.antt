@@ -13,8 +13,8 @@ use Rattle.call_model.specs.Lawful.{Covers, IsDecoding}
 use Rattle.stream_audit.specs.declared.verdict.Broken.{Broken}
 use Rattle.stream_audit.specs.declared.verdict.Verdict.TheVariants.{Yes, No}
 use Rattle.stream_audit.specs.declared.verdict.Rule.TheVariants as rule
-use Rattle.stream_audit.specs.Stream.{LogEntry, Sent, Fed, Part, StreamPicture, Item, Picture, Feedback, pictures_in, last_picture, with_part, with_more, begun_by, with_packet, with_bytes, slices_of, is_of, known_of, stream_of}
-use Rattle.stream_audit.specs.Verdict.{broken_at, has, last_is_whole, may_refer, present, has_reference, broken_within, broken_next, broken_by, first_of, first_broken, verdict_by, verdict_of}
+use Rattle.stream_audit.specs.Stream.{LogEntry, Sent, Fed, StreamPart, StreamPicture, Item, Picture, Feedback, pictures_in, last_picture, items_with_part, with_more, begun_by, items_with_packet, items_with_bytes, part_slices, is_of_piece, known_of, stream_of}
+use Rattle.stream_audit.specs.Verdict.{broken_at, has, last_is_whole, may_refer, present, item_has_reference, broken_within, broken_next, broken_by, first_broken_of, first_broken, verdict_by, verdict_of}
 use Rattle.stream_audit.specs.Sound.{IsSoundAfter, IsSound, AllReadable}
 use Rattle.stream_audit.proofs.Headers.{header_self}
 use Rattle.stream_audit.proofs.Lists.{any_at, length_map, slice_get_left, slice_get_last}
@@ -36,14 +36,15 @@ module _ {Style Mb P Fault MessageFault : Type 0} (decoding : Decoding Style Mb 
 
   -- ---- a sound picture
 
-  slice_at : (p : StreamPicture Style Mb) (j : ℕ) (part : Part Style Mb) → slice_get p.parts j ≡ Some part
-      → slice_get (slices_of p) j ≡ Some part.piece.slice
+  slice_at : (p : StreamPicture Style Mb) (j : ℕ) (part : StreamPart Style Mb) → slice_get p.parts j ≡ Some part
+      → slice_get (part_slices p) j ≡ Some part.piece.slice
   slice_at p j part at =
-      slice_get-map (λ (x : Part Style Mb). x.piece.slice) p.parts j
-      ∙ ap (option_map (λ (x : Part Style Mb). x.piece.slice)) at
+      slice_get-map (λ (x : StreamPart Style Mb). x.piece.slice) p.parts j
+      ∙ ap (option_map (λ (x : StreamPart Style Mb). x.piece.slice)) at
 
   -- the place of the only packet that has a macroblock
-  one_place : (p : StreamPicture Style Mb) (covers : Covers rules.mbs (slices_of p)) (j k : ℕ) (part : Part Style Mb)
+  one_place : (p : StreamPicture Style Mb) (covers : Covers rules.mbs (part_slices p)) (j k : ℕ)
+      (part : StreamPart Style Mb)
       → slice_get p.parts j ≡ Some part → has_mb part.piece.slice k ≡ true → j ≡ covers.place_of k
   one_place p covers j k part at held =
       let there = slice_at p j part at in
@@ -68,17 +69,19 @@ module _ {Style Mb P Fault MessageFault : Type 0} (decoding : Decoding Style Mb 
   clean_of (Feedback bytes ∷ items) sound = clean_of items sound
   clean_of (Picture p ∷ items) sound = (going_of items p sound.0, sound.1)
 
-  has_covered : (p : StreamPicture Style Mb) → Covers rules.mbs (slices_of p) → (k : ℕ) → k < rules.mbs → has p k ≡ true
+  has_covered : (p : StreamPicture Style Mb) → Covers rules.mbs (part_slices p) → (k : ℕ) → k < rules.mbs
+      → has p k ≡ true
   has_covered p covers k lt =
-      let far : covers.place_of k < length (slices_of p) = covers.below k lt in
+      let far : covers.place_of k < length (part_slices p) = covers.below k lt in
       elim (slice_get_cases p.parts (covers.place_of k)).1 [
         | inl h ↦
             let there = slice_at p (covers.place_of k) h.0 h.2 in
-            any_at (λ (x : Part Style Mb). has_mb x.piece.slice k) p.parts (covers.place_of k) h.0 h.2
+            any_at (λ (x : StreamPart Style Mb). has_mb x.piece.slice k) p.parts (covers.place_of k) h.0 h.2
             (covers.has (covers.place_of k) k h.0.piece.slice lt there
             ∙ eq-eqb (covers.place_of k) (covers.place_of k) refl)
         | inr h ↦
-            let same : length (slices_of p) ≡ length p.parts = length_map (λ (x : Part Style Mb). x.piece.slice) p.parts
+            let same : length (part_slices p) ≡ length p.parts = length_map (λ (x : StreamPart Style Mb). x.piece.slice)
+            p.parts
             in
             absurd (omega (arith, far, h.0, same))
       ]
@@ -90,7 +93,7 @@ module _ {Style Mb P Fault MessageFault : Type 0} (decoding : Decoding Style Mb 
 
   -- ---- a packet of the last picture
 
-  part_before : (items : List (Item Style Mb)) (p : StreamPicture Style Mb) (part : Part Style Mb)
+  part_before : (items : List (Item Style Mb)) (p : StreamPicture Style Mb) (part : StreamPart Style Mb)
       → Going items (with_more p part) → Going items p
   part_before items p part going = record {
     number = going.number;
@@ -102,7 +105,7 @@ module _ {Style Mb P Fault MessageFault : Type 0} (decoding : Decoding Style Mb 
         (slice_get_left p.parts (part ∷ []) j b at_j) in_a in_b;
   }
 
-  fresh_before : (items : List (Item Style Mb)) (p : StreamPicture Style Mb) (part : Part Style Mb)
+  fresh_before : (items : List (Item Style Mb)) (p : StreamPicture Style Mb) (part : StreamPart Style Mb)
       → Going items (with_more p part) → (k : ℕ) → has_mb part.piece.slice k ≡ true → has p k ≡ false
   fresh_before items p part going k held = false_from_ne_true _ (λ (old : has p k ≡ true).
       let first = first_part p.parts k old in
@@ -113,7 +116,7 @@ module _ {Style Mb P Fault MessageFault : Type 0} (decoding : Decoding Style Mb 
       let near = slice_get_within p.parts (place_in p.parts k) first.0 first.1 in
       absurd (omega (arith, same, near)))
 
-  own_before : (items : List (Item Style Mb)) (p : StreamPicture Style Mb) (part : Part Style Mb)
+  own_before : (items : List (Item Style Mb)) (p : StreamPicture Style Mb) (part : StreamPart Style Mb)
       → Going items (with_more p part) → broken_within decoding read rules (Some p) part.piece ≡ None
   own_before items p part going =
       let header = (going.packets (length p.parts) part (slice_get_last p.parts part)).1 in
@@ -126,7 +129,7 @@ module _ {Style Mb P Fault MessageFault : Type 0} (decoding : Decoding Style Mb 
       in
       rw (same, none) refl
 
-  part_last : (items : List (Item Style Mb)) (part : Part Style Mb) → Clean (with_part items part)
+  part_last : (items : List (Item Style Mb)) (part : StreamPart Style Mb) → Clean (items_with_part items part)
       → Clean items × (broken_within decoding read rules (last_picture items) part.piece ≡ None)
   part_last [] part clean = (tt, refl)
   part_last (Feedback bytes ∷ items) part clean = part_last items part clean
@@ -146,31 +149,33 @@ module _ {Style Mb P Fault MessageFault : Type 0} (decoding : Decoding Style Mb 
       ap (λ (o : Option ℕ). option_map_or (may_refer rules (known_of read rules items) (pictures_in items)) o false) r.1
       ∙ and_from _ _ r.3 (le-leb (pictures_in items) (r.0 + window rules) r.2)
 
-  next_before : (items : List (Item Style Mb)) (part : Part Style Mb) → Clean (Picture (begun_by part) ∷ items)
+  next_before : (items : List (Item Style Mb)) (part : StreamPart Style Mb) → Clean (Picture (begun_by part) ∷ items)
       → Clean items × (broken_next decoding read rules items part.piece ≡ None)
   next_before items part clean =
       let whole = whole_of items clean.1 in
       let right : eqb part.piece.header.number (pictures_in items % period rules)
       ≡ true = eq-eqb part.piece.header.number (pictures_in items % period rules) clean.0.number in
-      let there : has_reference decoding read rules items part.piece.header
+      let there : item_has_reference decoding read rules items part.piece.header
       ≡ true = refers items part.piece.header.reference clean.0.reference in
       (clean_of items clean.1, rw (whole, right, there) refl)
 
   -- ---- a log
 
-  packet_before : (items : List (Item Style Mb)) (part : Part Style Mb) → part.piece.header.half ≡ rules.half
-      → Clean (with_packet items part) → Clean items × (broken_by decoding read rules items (Ok part.piece) ≡ None)
+  packet_before : (items : List (Item Style Mb)) (part : StreamPart Style Mb) → part.piece.header.half ≡ rules.half
+      → Clean (items_with_packet items part) → Clean items × (broken_by decoding read rules items (Ok part.piece)
+      ≡ None)
   packet_before items part half clean =
       let clock : eqb part.piece.header.half rules.half ≡ true = eq-eqb part.piece.header.half rules.half half in
-      elim (cases_Bool (is_of (last_picture items) part.piece)) [
+      elim (cases_Bool (is_of_piece (last_picture items) part.piece)) [
         | inl own ↦
             let r = part_last items part
-            (subst (λ (b : Bool). Clean (if b then with_part items part else Picture (begun_by part) ∷ items)) own
+            (subst (λ (b : Bool). Clean (if b then items_with_part items part else Picture (begun_by part) ∷ items)) own
             clean) in
             (r.0, rw (clock, own) (ap (option_map (broken_at (present items))) r.1))
         | inr next ↦
             let r = next_before items part
-            (subst (λ (b : Bool). Clean (if b then with_part items part else Picture (begun_by part) ∷ items)) next
+            (subst (λ (b : Bool). Clean (if b then items_with_part items part else Picture (begun_by part) ∷ items))
+            next
             clean) in
             (r.0, rw (clock, next) r.1)
       ]
@@ -178,16 +183,17 @@ module _ {Style Mb P Fault MessageFault : Type 0} (decoding : Decoding Style Mb 
   unbroken : (past : List LogEntry) → AllReadable decoding rules past → Clean (stream_of decoding past)
       → first_broken decoding read rules past ≡ None
   unbroken [] readable clean = refl
-  unbroken (Fed bytes ∷ past) readable clean = ap (λ (o : Option Broken). first_of o None)
+  unbroken (Fed bytes ∷ past) readable clean = ap (λ (o : Option Broken). first_broken_of o None)
       (unbroken past readable clean)
   unbroken (Sent bytes ∷ past) readable clean =
       let piece = readable.0.0 in
       let reads : decoding.read bytes ≡ Ok piece = readable.0.1 in
-      let part : Part Style Mb = record { bytes = bytes; piece = piece } in
+      let part : StreamPart Style Mb = record { bytes = bytes; piece = piece } in
       let r = packet_before (stream_of decoding past) part readable.0.2
-      (subst (λ (x : Result (Piece Style Mb) Fault). Clean (with_bytes decoding (stream_of decoding past) bytes x))
+      (subst (λ (x : Result (Piece Style Mb) Fault). Clean
+      (items_with_bytes decoding (stream_of decoding past) bytes x))
       reads clean) in
-      ap (λ (o : Option Broken). first_of o (broken_by decoding read rules (stream_of decoding past)
+      ap (λ (o : Option Broken). first_broken_of o (broken_by decoding read rules (stream_of decoding past)
       (decoding.read bytes))) (unbroken past readable.1 r.0)
       ∙ ap (broken_by decoding read rules (stream_of decoding past)) reads
       ∙ r.1

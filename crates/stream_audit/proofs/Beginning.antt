@@ -7,16 +7,16 @@ use Rattle.h263_types.specs.Sizes.{mbs_of}
 use Rattle.picture_header.specs.declared.header.Header.{Header}
 use Rattle.packet_collector.specs.declared.collector.Collector.{Collector}
 use Rattle.packet_collector.specs.declared.piece.Piece.{Piece}
-use Rattle.packet_collector.specs.Collected.{Collects, FitsKept, IsFreshIn, IsInRow, IsKept, format_of, header_in, has_in, row_of}
+use Rattle.packet_collector.specs.Collected.{Collects, FitsKept, IsFreshIn, IsInRow, IsHeaderKept, format_of, header_in, has_in, row_of}
 use Rattle.call_model.specs.Numbers.{AllBelowIs}
-use Rattle.packet_collector.specs.Taken.{Taken, TakenLaws, has_any}
+use Rattle.packet_collector.specs.Taken.{Taken, TakenLaws, is_any_taken}
 
 module _ (laws : TakenLaws) (below : AllBelowIs) (c : Collector) (n : ℕ) (taken : List Taken)
-    (collects : Collects c n taken) (row : row_of c ≡ 1) (absent : has_any taken n ≡ false) where
+    (collects : Collects c n taken) (row : row_of c ≡ 1) (absent : is_any_taken taken n ≡ false) where
   in_row : IsInRow c n
   in_row = record { low = omega (arith, collects.begins); high = omega (arith, collects.begins, row) }
 
-  no_header : (o : Option Header) (h : Header) → IsKept taken n o → FitsKept o h
+  no_header : (o : Option Header) (h : Header) → IsHeaderKept taken n o → FitsKept o h
   no_header None h kept = tt
   no_header (Some g) h kept = absurd (both_ways _ absent kept.0)
 
@@ -31,7 +31,7 @@ module _ (laws : TakenLaws) (below : AllBelowIs) (c : Collector) (n : ℕ) (take
 
 -- after the row's end nothing was taken
 pub absent_after : TakenLaws → (c : Collector) (first n : ℕ) (taken : List Taken) → Collects c first taken
-    → row_of c ≡ 1 → n ≡ first + 1 → has_any taken n ≡ false
+    → row_of c ≡ 1 → n ≡ first + 1 → is_any_taken taken n ≡ false
 absent_after laws c first n taken collects row is =
     false_from_ne_true _ (λ e.
     let m = laws.member taken n e in

@@ -16,8 +16,8 @@ use Rattle.stream_audit.specs.declared.verdict.Verdict.{Verdict}
 use Rattle.stream_audit.specs.declared.verdict.Verdict.TheVariants.{Yes, No}
 use Rattle.stream_audit.specs.Breaks.{Breaks, BreaksFirst, IsOfLast, IsOfNext, LacksAtEnd, LastIsWhole, NoIsFirst, NoneBreaks}
 use Rattle.stream_audit.specs.Sound.{IsReadable}
-use Rattle.stream_audit.specs.Stream.{LogEntry, Sent, Fed, Item, StreamPicture, is_of, known_of, last_picture, pictures_in, stream_of}
-use Rattle.stream_audit.specs.Verdict.{broken_at, broken_by, broken_in, broken_next, broken_within, first_broken, first_of, has, has_reference, is_whole, last_is_whole, may_refer, present, verdict_by}
+use Rattle.stream_audit.specs.Stream.{LogEntry, Sent, Fed, Item, StreamPicture, is_of_piece, known_of, last_picture, pictures_in, stream_of}
+use Rattle.stream_audit.specs.Verdict.{broken_at, broken_by, broken_in, broken_next, broken_within, first_broken, first_broken_of, has, item_has_reference, is_picture_whole, last_is_whole, may_refer, present, verdict_by}
 use Rattle.stream_audit.proofs.Headers.{header_self, same_header_is}
 use Rattle.stream_audit.proofs.Verdicts.{none_of}
 
@@ -57,11 +57,12 @@ module _ {Style Mb P Fault MessageFault : Type 0} (decoding : Decoding Style Mb 
 
   whole_told : (items : List (Item Style Mb)) → last_is_whole rules items ≡ true → LastIsWhole rules items
   whole_told items is p last k lt =
-      (below rules.mbs (has p)).0 (ap (λ (o : Option (StreamPicture Style Mb)). option_map_or (is_whole rules) o true)
+      (below rules.mbs (has p)).0
+      (ap (λ (o : Option (StreamPicture Style Mb)). option_map_or (is_picture_whole rules) o true)
       (sym last) ∙ is) k lt
 
   whole_tested : (items : List (Item Style Mb)) (o : Option (StreamPicture Style Mb)) → last_picture items ≡ o
-      → LastIsWhole rules items → option_map_or (is_whole rules) o true ≡ true
+      → LastIsWhole rules items → option_map_or (is_picture_whole rules) o true ≡ true
   whole_tested items None last whole = refl
   whole_tested items (Some p) last whole = (below rules.mbs (has p)).1 (λ k lt. whole p last k lt)
 
@@ -208,7 +209,7 @@ module _ {Style Mb P Fault MessageFault : Type 0} (decoding : Decoding Style Mb 
           )
 
           sound_next : last_is_whole rules items ≡ true → eqb piece.header.number (count % period rules) ≡ true
-              → has_reference decoding read rules items piece.header ≡ true → (n : ℕ) (r : Rule) → B n r → ⊥
+              → item_has_reference decoding read rules items piece.header ≡ true → (n : ℕ) (r : Rule) → B n r → ⊥
           sound_next whole number reference n rule.Packet h = h.1 readable
           sound_next whole number reference n rule.Header h = not_last h.1
           sound_next whole number reference n rule.Overlap h = not_last h.1
@@ -233,20 +234,21 @@ module _ {Style Mb P Fault MessageFault : Type 0} (decoding : Decoding Style Mb 
               (λ t. no_gap (turned _ t))
               (λ t. holds_if (not (eqb piece.header.number (count % period rules))) (Some (broken_at count rule.Number))
               _ (λ u. other_number (turned _ u))
-              (λ u. holds_if (not (has_reference decoding read rules items piece.header))
+              (λ u. holds_if (not (item_has_reference decoding read rules items piece.header))
               (Some (broken_at count rule.Reference)) None
               (λ v. none_known piece.header.reference refl (turned _ v)) (λ v. sound_next (kept _ t) (kept _ u)
               (kept _ v))))
 
-        by_last : (o : Option (StreamPicture Style Mb)) → last_picture items ≡ o → is_of o piece ≡ true
+        by_last : (o : Option (StreamPicture Style Mb)) → last_picture items ≡ o → is_of_piece o piece ≡ true
             → Holds (at_present (broken_within decoding read rules o piece))
         by_last None last t = absurd (false≢true t)
         by_last (Some p) last t = own_holds p last (eqb-true p.header.number piece.header.number t)
 
-        apart_from : is_of (last_picture items) piece ≡ false → (p : StreamPicture Style Mb)
+        apart_from : is_of_piece (last_picture items) piece ≡ false → (p : StreamPicture Style Mb)
             → last_picture items ≡ Some p → p.header.number ≡ piece.header.number → ⊥
         apart_from t p last number =
-            clash (is_of (last_picture items) piece) (ap (λ (o : Option (StreamPicture Style Mb)). is_of o piece) last
+            clash (is_of_piece (last_picture items) piece)
+            (ap (λ (o : Option (StreamPicture Style Mb)). is_of_piece o piece) last
             ∙ eq-eqb p.header.number piece.header.number number) t
 
       other_clock : eqb piece.header.half rules.half ≡ false → B (present items) rule.Packet
@@ -266,7 +268,7 @@ module _ {Style Mb P Fault MessageFault : Type 0} (decoding : Decoding Style Mb 
         (λ t. other_clock piece is (turned _ t))
         (λ t.
         let half = eqb-true piece.header.half rules.half (kept _ t) in
-        holds_if (is_of (last_picture items) piece) _ _ (by_last piece is half (last_picture items) refl)
+        holds_if (is_of_piece (last_picture items) piece) _ _ (by_last piece is half (last_picture items) refl)
         (λ u. next_holds piece is half (apart_from piece is half u)))
 
   -- ---- a log
@@ -277,7 +279,7 @@ module _ {Style Mb P Fault MessageFault : Type 0} (decoding : Decoding Style Mb 
   abbrev found_in : LogEntry → List LogEntry → Option Broken
   found_in e past = broken_in decoding read rules (stream_of decoding past) e
 
-  first_none : (x y : Option Broken) → first_of x y ≡ None → (x ≡ None) × (y ≡ None)
+  first_none : (x y : Option Broken) → first_broken_of x y ≡ None → (x ≡ None) × (y ≡ None)
   first_none None y e = (refl, e)
   first_none (Some b) y e = absurd (cc e)
 
@@ -326,7 +328,7 @@ module _ {Style Mb P Fault MessageFault : Type 0} (decoding : Decoding Style Mb 
 
       by_past : (o : Option Broken) → first_broken decoding read rules past ≡ o
           → ((c : Broken) → first_broken decoding read rules past ≡ Some c → First past c)
-          → (x : LogEntry) → first_of o (found_in x past) ≡ Some b → First (x ∷ past) b
+          → (x : LogEntry) → first_broken_of o (found_in x past) ≡ Some b → First (x ∷ past) b
       by_past None is before x e = here x is e
       by_past (Some c) is before x e = later_too x past b (before b (is ∙ e))
 

@@ -13,8 +13,8 @@ use Rattle.call_model.specs.Sending.{NearestIsInPeriod, header_of, nearest_below
 use Rattle.call_model.specs.Receiving.{Repeat, Completed, Taken, nack}
 use Rattle.call_model.specs.Sound.{Packets, AllSound, received, delivery_answer, play_message, AnySoundSender, NoneRefused}
 use Rattle.call_model.specs.TwoStores.{travelling}
-use Rattle.stream_audit.specs.Stream.{StreamPicture, Item, pictures_in, picture_in, slices_of, packets_in, known_of}
-use Rattle.stream_audit.specs.Replay.{MessageAbout, StreamEvent, decoded_in, events_in, said_to, replay}
+use Rattle.stream_audit.specs.Stream.{StreamPicture, Item, pictures_in, picture_numbered, part_slices, stream_packets, known_of}
+use Rattle.stream_audit.specs.Replay.{MessageAbout, StreamEvent, decoded_in, events_in, about_said_to, replay}
 
 -- the laws of a call that are used of a stream
 pub record CallLaws {Style Mb P Fault : Type 0} (decoding : Decoding Style Mb P Fault) (rules : Rules) : Type 0 where
@@ -40,16 +40,16 @@ module _ {Style Mb P Fault MessageFault : Type 0} (decoding : Decoding Style Mb 
         reference = reference;
         depth = 0;
         style = p.header.style;
-        slices = slices_of p;
+        slices = part_slices p;
         picture = reconstruction_of_slices decoding.pictures p.header.style
-            (option_and_then (picture_at coded) reference) (slices_of p);
+            (option_and_then (picture_at coded) reference) (part_slices p);
       }
 
   abbrev pub source : Source Style Mb P
-  source c = option_map (coded_of (length c.coded) c.coded) (picture_in stream (length c.coded))
+  source c = option_map (coded_of (length c.coded) c.coded) (picture_numbered stream (length c.coded))
 
   abbrev pub packets : Packets Style Mb P
-  packets coded n = packets_in stream n
+  packets coded n = stream_packets stream n
 
   abbrev pub call : List Event → Call Style Mb P
   call past = call_from decoding.pictures rules source past
@@ -57,8 +57,8 @@ module _ {Style Mb P Fault MessageFault : Type 0} (decoding : Decoding Style Mb 
   -- it is picture n of the stream
   pub record IsOf (n : ℕ) (x : Coded Style Mb P) : Type 0 where
     pub picture : StreamPicture Style Mb
-    pub there : picture_in stream n ≡ Some picture
-    pub slices : x.slices ≡ slices_of picture
+    pub there : picture_numbered stream n ≡ Some picture
+    pub slices : x.slices ≡ part_slices picture
     pub style : x.style ≡ picture.header.style
     pub reference : x.reference ≡ option_and_then (nearest_below rules n) picture.header.reference
 
@@ -82,7 +82,7 @@ module _ {Style Mb P Fault MessageFault : Type 0} (decoding : Decoding Style Mb 
 -- what a delivery lets the receiver say is what the call says
 pub says : {Style Mb P : Type 0} (Fault : Type 0) (rules : Rules) (c : Call Style Mb P) (n j : ℕ)
     → j < length (slices_at c.coded n)
-    → said_to {Fault = Fault} n (delivery_answer rules c n j)
+    → about_said_to {Fault = Fault} n (delivery_answer rules c n j)
     ≡ map (told_of rules) (if delivery_counts rules c n j && is_full c.coded (with_arrival c.arrivals n j) n then Got n
     (full_flags rules c.coded (with_arrival c.arrivals n j) n) ∷ [] else [])
 unfolding delivery_answer delivery_counts is_open
@@ -107,7 +107,7 @@ says Fault rules c n j lt =
       ]
     ]
   where
-    go : (came full : Bool) → said_to {Fault = Fault} n (if came then Repeat else if full then Completed
+    go : (came full : Bool) → about_said_to {Fault = Fault} n (if came then Repeat else if full then Completed
         (Ack (n % period rules) (full_flags rules c.coded (with_arrival c.arrivals n j) n)) else Taken)
         ≡ map (told_of rules) (if not came && full then Got n
         (full_flags rules c.coded (with_arrival c.arrivals n j) n) ∷ [] else [])

@@ -15,8 +15,8 @@ use Rattle.stream_audit.specs.declared.verdict.Rule.{Rule}
 use Rattle.stream_audit.specs.declared.verdict.Rule.TheVariants as rule
 use Rattle.receiver_end.specs.Decoding.{decoding}
 use Rattle.call_encoding.specs.Messages.{read_message}
-use Rattle.stream_audit.specs.State.{Fits, Keeps, Spells}
-use Rattle.stream_audit.specs.Stream.{Item, Part, StreamPicture, is_of, last_picture, with_packet, with_part}
+use Rattle.stream_audit.specs.State.{AuditFits, AuditKeeps, SpellsSlice}
+use Rattle.stream_audit.specs.Stream.{Item, StreamPart, StreamPicture, is_of_piece, last_picture, items_with_packet, items_with_part}
 use Rattle.stream_audit.specs.Verdict.{broken_at, broken_by, broken_within, present}
 use Rattle.stream_audit.proofs.Headers.{same_header_is}
 use Rattle.stream_audit.proofs.Lists.{not_none}
@@ -26,16 +26,16 @@ positive zero none = absurd (none refl)
 positive (suc n) none = omega arith
 
 -- where a temporal reference is the last picture's, there is one
-pub some_before : (k : Kept) → Fits k → (number : ℕ) → option_map_or (λ n. eqb n number) k.tr false ≡ true
+pub some_before : (k : Kept) → AuditFits k → (number : ℕ) → option_map_or (λ n. eqb n number) k.tr false ≡ true
     → 0 < k.pictures
 some_before k fits number is =
     positive k.pictures (λ first. false≢true (ap (λ (o : Option ℕ). option_map_or (λ n. eqb n number) o false)
     (sym (fits.before_first first).0) ∙ is))
 
 -- a packet is of the last picture where it has that one's temporal reference
-pub last_own : (k : Kept) (items : List (Item Style Mb)) (piece : Piece) (q : call.Piece Style Mb) → Keeps k items
-    → Spells piece q
-    → option_map_or (λ n. eqb n piece.header.tr) k.tr false ≡ is_of (last_picture items) q
+pub last_own : (k : Kept) (items : List (Item Style Mb)) (piece : Piece) (q : call.Piece Style Mb) → AuditKeeps k items
+    → SpellsSlice piece q
+    → option_map_or (λ n. eqb n piece.header.tr) k.tr false ≡ is_of_piece (last_picture items) q
 last_own k items piece q keeps spells =
     ap (λ (o : Option ℕ). option_map_or (λ n. eqb n piece.header.tr) o false) keeps.tr ∙ go (last_picture items)
   where
@@ -43,12 +43,13 @@ last_own k items piece q keeps spells =
     number = ap (λ (h : call.Header Style). h.number) (sym spells.header)
 
     go : (o : Option (StreamPicture Style Mb))
-        → option_map_or (λ n. eqb n piece.header.tr) (option_map (λ p. p.header.number) o) false ≡ is_of o q
+        → option_map_or (λ n. eqb n piece.header.tr) (option_map (λ p. p.header.number) o) false ≡ is_of_piece o q
     go None = refl
     go (Some p) = ap (λ (n : ℕ). eqb p.header.number n) number
 
-module _ (k : Kept) (items : List (Item Style Mb)) (part : Part Style Mb) (piece : Piece) (keeps : Keeps k items)
-    (spells : Spells piece part.piece) where
+module _ (k : Kept) (items : List (Item Style Mb)) (part : StreamPart Style Mb) (piece : Piece)
+    (keeps : AuditKeeps k items)
+    (spells : SpellsSlice piece part.piece) where
   abbrev By : Option Broken
   By = broken_by (decoding k.params.format) (read_message k.params.clock) (rules_of k.params) items (Ok part.piece)
 
@@ -61,16 +62,16 @@ module _ (k : Kept) (items : List (Item Style Mb)) (part : Part Style Mb) (piece
   same_half : piece.header.clock ≡ k.params.clock → eqb part.piece.header.half (half_of k.params.clock) ≡ true
   same_half same = eq-eqb part.piece.header.half (half_of k.params.clock) (half ∙ ap half_of same)
 
-  pub own_picture : is_of (last_picture items) part.piece ≡ true → (p : StreamPicture Style Mb)
+  pub own_picture : is_of_piece (last_picture items) part.piece ≡ true → (p : StreamPicture Style Mb)
       × (last_picture items ≡ Some p)
   own_picture own = go (last_picture items) refl own
     where
-      go : (o : Option (StreamPicture Style Mb)) → last_picture items ≡ o → is_of o part.piece ≡ true
+      go : (o : Option (StreamPicture Style Mb)) → last_picture items ≡ o → is_of_piece o part.piece ≡ true
           → (p : StreamPicture Style Mb) × (last_picture items ≡ Some p)
       go None is own = absurd (false≢true own)
       go (Some p) is own = (p, is)
 
-  pub at_own : piece.header.clock ≡ k.params.clock → is_of (last_picture items) part.piece ≡ true
+  pub at_own : piece.header.clock ≡ k.params.clock → is_of_piece (last_picture items) part.piece ≡ true
       → (p : StreamPicture Style Mb) → last_picture items ≡ Some p
       → (o : Option Rule) → o ≡ broken_within (decoding k.params.format) (read_message k.params.clock)
       (rules_of k.params) (Some p) part.piece
@@ -82,8 +83,9 @@ module _ (k : Kept) (items : List (Item Style Mb)) (part : Part Style Mb) (piece
       (read_message k.params.clock) (rules_of k.params) x part.piece) (sym is))
       ∙ sym (rw (same_half same, own) refl)
 
-  pub kept_own : (new : Kept) → is_of (last_picture items) part.piece ≡ true → Keeps new (with_part items part)
-      → Keeps new (with_packet items part)
+  pub kept_own : (new : Kept) → is_of_piece (last_picture items) part.piece ≡ true
+      → AuditKeeps new (items_with_part items part)
+      → AuditKeeps new (items_with_packet items part)
   kept_own new own keeps' = rw own keeps'
 
   -- a packet of the last picture that breaks nothing has its header

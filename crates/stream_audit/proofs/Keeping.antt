@@ -14,7 +14,7 @@ use Rattle.picture_header.specs.declared.header.Header.{Header}
 use Rattle.packet_collector.specs.declared.piece.Piece.{Piece}
 use Rattle.packet_collector.specs.declared.piece.Place.{Place}
 use Rattle.packet_collector.specs.declared.piece.Place.TheVariants as places
-use Rattle.packet_collector.specs.Taken.{TakenLaws, IsPlace, HasNoOther, HasOther, has_taken, is_whole}
+use Rattle.packet_collector.specs.Taken.{TakenLaws, IsPlace, HasNoOther, HasOther, is_mb_taken, is_whole}
 use Rattle.packet_collector.specs.Taken as kept
 use Rattle.call_model.specs.Numbers.{all_below, AllBelowIs}
 use Rattle.call_model.specs.Coding as call
@@ -23,13 +23,13 @@ use Rattle.call_model.specs.Receiving.{none_in}
 use Rattle.call_model.specs.Sending.{nearest_below, known_by_feedback}
 use Rattle.call_model.specs.Lawful.{IsDecoding}
 use Rattle.call_decoding.specs.Rules.{rules_of}
-use Rattle.call_decoding.specs.Styles.{Style, header_of, header_from}
+use Rattle.call_decoding.specs.Styles.{Style, call_header_of, header_from}
 use Rattle.stream_audit.specs.declared.kept.Kept.{Kept}
 use Rattle.stream_audit.specs.declared.verdict.Rule.{Rule}
 use Rattle.stream_audit.specs.declared.verdict.Rule.TheVariants as rule
 use Rattle.receiver_end.specs.Decoding.{decoding}
 use Rattle.call_encoding.specs.Messages.{read_message}
-use Rattle.stream_audit.specs.State.{IsLast, IsTakenOf, Keeps, Spells}
+use Rattle.stream_audit.specs.State.{IsLast, IsTakenOf, AuditKeeps, SpellsSlice}
 use Rattle.stream_audit.specs.Stream.{Item, Feedback, StreamPicture, last_picture, pictures_in, known_of}
 use Rattle.stream_audit.specs.Verdict.{broken_within, has, last_is_whole, may_refer}
 use Rattle.stream_audit.specs.Verdict as rules_for
@@ -53,11 +53,11 @@ rule_of places.Repeat = Some rule.Overlap
 rule_of places.Overlap = Some rule.Overlap
 rule_of places.Fresh = None
 
-module _ (laws : TakenLaws) (whole : (h : Header) → header_from (header_of h) ≡ h) (k : Kept)
+module _ (laws : TakenLaws) (whole : (h : Header) → header_from (call_header_of h) ≡ h) (k : Kept)
     (lawful : IsDecoding (decoding k.params.format) (rules_of k.params)) (below : AllBelowIs) where
   module _ (items : List (Item Style Mb)) (p : StreamPicture Style Mb) (piece : Piece) (q : call.Piece Style Mb)
-      (keeps : Keeps k items) (is : last_picture items ≡ Some p) (head : IsHeadOf k.params.format piece.head)
-      (spells : Spells piece q) where
+      (keeps : AuditKeeps k items) (is : last_picture items ≡ Some p) (head : IsHeadOf k.params.format piece.head)
+      (spells : SpellsSlice piece q) where
     of_last : IsTakenOf p (k.pictures - 1) (mbs_of k.params.format) keeps.taken
     of_last = subst (λ (o : Option (StreamPicture Style Mb)). IsLast o (k.pictures - 1) (mbs_of k.params.format)
         keeps.taken) is keeps.last
@@ -66,7 +66,7 @@ module _ (laws : TakenLaws) (whole : (h : Header) → header_from (header_of h) 
         → call.same_header (decoding k.params.format) p.header q.header ≡ true
     same_from no_other =
         let m = laws.member keeps.taken (k.pictures - 1) of_last.some in
-        let equal : p.header ≡ q.header = sym (of_last.header m.0 m.1 m.2) ∙ ap header_of (no_other m.0 m.1 m.2)
+        let equal : p.header ≡ q.header = sym (of_last.header m.0 m.1 m.2) ∙ ap call_header_of (no_other m.0 m.1 m.2)
         ∙ sym spells.header in
         subst (λ (h : call.Header Style). call.same_header (decoding k.params.format) p.header h ≡ true) equal
         (header_self (decoding k.params.format) (rules_of k.params) lawful p.header)
@@ -76,16 +76,17 @@ module _ (laws : TakenLaws) (whole : (h : Header) → header_from (header_of h) 
     other_from other = false_from_ne_true _ (λ e.
         let equal : p.header ≡ q.header = same_header_is (decoding k.params.format) (rules_of k.params) lawful p.header
         q.header e in
-        let seen : header_of other.0.piece.header ≡ header_of piece.header = of_last.header other.0 other.1 other.2
+        let seen : call_header_of other.0.piece.header ≡ call_header_of piece.header =
+        of_last.header other.0 other.1 other.2
         ∙ equal ∙ spells.header in
         other.3 (sym (whole other.0.piece.header) ∙ ap header_from seen ∙ whole piece.header))
 
     marked : (i : ℕ) → i < piece.head.count → has p (q.slice.first + i)
-        ≡ has_taken keeps.taken (k.pictures - 1) (piece.head.first + i)
+        ≡ is_mb_taken keeps.taken (k.pictures - 1) (piece.head.first + i)
     marked i lt = ap (λ (m : ℕ). has p (m + i)) spells.first
         ∙ sym (of_last.marks (piece.head.first + i) (omega (arith, lt, head.within)))
 
-    none_same : none_in q.slice (has p) ≡ kept.none_in piece.head (has_taken keeps.taken (k.pictures - 1))
+    none_same : none_in q.slice (has p) ≡ kept.none_in_head piece.head (is_mb_taken keeps.taken (k.pictures - 1))
     none_same =
         ap (λ (m : ℕ). all_below m (λ i. not (has p (q.slice.first + i)))) spells.count
         ∙ all_below_same piece.head.count _ _ (λ i lt. ap not (marked i lt))
@@ -106,18 +107,19 @@ module _ (laws : TakenLaws) (whole : (h : Header) → header_from (header_of h) 
     within_is places.Fresh at = sym (broken true true (same_from at.0) (none_same ∙ at.2))
 
 -- the last picture is whole where all its macroblocks are taken
-pub whole_is : (k : Kept) (items : List (Item Style Mb)) (keeps : Keeps k items) (p : StreamPicture Style Mb)
+pub whole_is : (k : Kept) (items : List (Item Style Mb)) (keeps : AuditKeeps k items) (p : StreamPicture Style Mb)
     → last_picture items ≡ Some p
     → is_whole k.params.format keeps.taken (k.pictures - 1) ≡ last_is_whole (rules_of k.params) items
 whole_is k items keeps p is =
     let last = subst (λ (o : Option (StreamPicture Style Mb)). IsLast o (k.pictures - 1) (mbs_of k.params.format)
     keeps.taken) is keeps.last in
     all_below_same (mbs_of k.params.format) _ _ (λ m lt. last.marks m lt)
-    ∙ ap (λ (o : Option (StreamPicture Style Mb)). option_map_or (rules_for.is_whole (rules_of k.params)) o true)
+    ∙ ap (λ (o : Option (StreamPicture Style Mb)). option_map_or (rules_for.is_picture_whole (rules_of k.params)) o
+    true)
     (sym is)
 
 -- the last picture, if its number is kept
-last_is : (k : Kept) (items : List (Item Style Mb)) → Keeps k items → (o : Option (StreamPicture Style Mb))
+last_is : (k : Kept) (items : List (Item Style Mb)) → AuditKeeps k items → (o : Option (StreamPicture Style Mb))
     → last_picture items ≡ o → k.tr ≡ None → o ≡ None
 last_is k items keeps None is none = refl
 last_is k items keeps (Some p) is none =
@@ -139,7 +141,7 @@ near rules known n m le = rw (le-leb n (m + call.window rules) le) (go (is_among
     go true = refl
     go false = refl
 
-module _ (k : Kept) (items : List (Item Style Mb)) (keeps : Keeps k items) (rest : ℕ) where
+module _ (k : Kept) (items : List (Item Style Mb)) (keeps : AuditKeeps k items) (rest : ℕ) where
   abbrev known : List ℕ
   known = known_of (read_message k.params.clock) (rules_of k.params) items
 
@@ -158,7 +160,7 @@ module _ (k : Kept) (items : List (Item Style Mb)) (keeps : Keeps k items) (rest
       ∙ near (rules_of k.params) known (pictures_in items) m (omega (arith, le, keeps.count))
 
 -- the last picture is whole where all its macroblocks are taken, or there is none
-pub whole_where : (k : Kept) (items : List (Item Style Mb)) (keeps : Keeps k items) (tr : ℕ) → k.tr ≡ Some tr
+pub whole_where : (k : Kept) (items : List (Item Style Mb)) (keeps : AuditKeeps k items) (tr : ℕ) → k.tr ≡ Some tr
     → is_whole k.params.format keeps.taken (k.pictures - 1) ≡ last_is_whole (rules_of k.params) items
 whole_where k items keeps tr there = go (last_picture items) refl
   where
@@ -168,19 +170,19 @@ whole_where k items keeps tr there = go (last_picture items) refl
         (sym (sym (keeps.tr ∙ ap (option_map (λ (x : StreamPicture Style Mb). x.header.number)) is) ∙ there)))
     go (Some p) is = whole_is k items keeps p is
 
-pub whole_none : (k : Kept) (items : List (Item Style Mb)) → Keeps k items → k.tr ≡ None
+pub whole_none : (k : Kept) (items : List (Item Style Mb)) → AuditKeeps k items → k.tr ≡ None
     → true ≡ last_is_whole (rules_of k.params) items
 whole_none k items keeps none =
-    ap (λ (o : Option (StreamPicture Style Mb)). option_map_or (rules_for.is_whole (rules_of k.params)) o true)
+    ap (λ (o : Option (StreamPicture Style Mb)). option_map_or (rules_for.is_picture_whole (rules_of k.params)) o true)
     (sym (last_is k items keeps (last_picture items) refl none))
 
 -- what feedback makes known is known after it
 pub noted : (k : Kept) (s : Selector) (items : List (Item Style Mb)) (bytes : List ℕ) (message : call.Message)
-    → Keeps k items
+    → AuditKeeps k items
     → SelectorStands (rules_of k.params) s k.pictures (λ m. 0)
     (λ m. is_among (known_by_feedback (rules_of k.params) k.pictures (Some message)) m || is_among
     (known_of (read_message k.params.clock) (rules_of k.params) items) m)
-    → read_message k.params.clock bytes ≡ Ok message → Keeps (record k { selector = s }) (Feedback bytes ∷ items)
+    → read_message k.params.clock bytes ≡ Ok message → AuditKeeps (record k { selector = s }) (Feedback bytes ∷ items)
 noted k s items bytes message keeps stands read = record {
   count = keeps.count;
   tr = keeps.tr;

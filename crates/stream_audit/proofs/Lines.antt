@@ -11,9 +11,10 @@ use Rattle.stream_audit.specs.declared.verdict.Rule.{Rule}
 use Rattle.stream_audit.specs.declared.verdict.Rule.TheVariants as rule
 use Rattle.stream_audit.specs.declared.verdict.Verdict.{Verdict}
 use Rattle.stream_audit.specs.declared.verdict.Verdict.TheVariants.{Yes, No}
-use Rattle.stream_audit.specs.Stream.{Fed, Feedback, Item, LogEntry, Part, Picture, Sent, begun_by, is_of, last_picture, pictures_in, stream_of, with_bytes, with_part}
-use Rattle.stream_audit.specs.Text.{newline, number_told, verdict_line, word_of}
-use Rattle.stream_audit.specs.Verdict.{broken_at, broken_by, broken_in, broken_within, first_broken, first_of, has_reference, last_is_whole, present, verdict_by, verdict_of}
+use Rattle.stream_audit.specs.Stream.{Fed, Feedback, Item, LogEntry, StreamPart, Picture, Sent, begun_by, is_of_piece, last_picture, pictures_in, stream_of, items_with_bytes, items_with_part}
+use Rattle.h263_types.specs.Texts.{newline}
+use Rattle.stream_audit.specs.Text.{number_told, verdict_line, rule_word}
+use Rattle.stream_audit.specs.Verdict.{broken_at, broken_by, broken_in, broken_within, first_broken, first_broken_of, item_has_reference, last_is_whole, present, verdict_by, verdict_of}
 
 -- ---- a number ends where another byte stands
 
@@ -65,7 +66,7 @@ rule_by word =
     else if eqb (slice_index word 0) 103 then rule.Gap
     else rule.Reference
 
-rule_again : (r : Rule) → rule_by (word_of r) ≡ r
+rule_again : (r : Rule) → rule_by (rule_word r) ≡ r
 unfolding rule_by
 rule_again rule.Packet = refl
 rule_again rule.Number = refl
@@ -77,11 +78,11 @@ rule_again rule.Reference = refl
 yes_line : (n : ℕ) → verdict_line (Yes n) ≡ codes "yes pictures " ++ (decimal n ++ newline)
 yes_line n = append_assoc (codes "yes pictures ") (decimal n) newline
 
-no_line : (n : ℕ) (r : Rule) → verdict_line (No n r) ≡ codes "no " ++ (decimal n ++ (32 ∷ (word_of r ++ newline)))
+no_line : (n : ℕ) (r : Rule) → verdict_line (No n r) ≡ codes "no " ++ (decimal n ++ (32 ∷ (rule_word r ++ newline)))
 no_line n r =
-    append_assoc (((codes "no " ++ decimal n)) ++ codes " ") (word_of r) newline
-    ∙ append_assoc (codes "no " ++ decimal n) (codes " ") (word_of r ++ newline)
-    ∙ append_assoc (codes "no ") (decimal n) (codes " " ++ (word_of r ++ newline))
+    append_assoc (((codes "no " ++ decimal n)) ++ codes " ") (rule_word r) newline
+    ∙ append_assoc (codes "no " ++ decimal n) (codes " ") (rule_word r ++ newline)
+    ∙ append_assoc (codes "no ") (decimal n) (codes " " ++ (rule_word r ++ newline))
 
 other_line : (n m : ℕ) (r : Rule) → verdict_line (Yes n) ≡ verdict_line (No m r) → ⊥
 other_line n m r e =
@@ -97,17 +98,17 @@ lines_tell (Yes n) (Yes m) small also e =
 lines_tell (Yes n) (No m r) small also e = absurd (other_line n m r e)
 lines_tell (No n r) (Yes m) small also e = absurd (other_line m n r (sym e))
 lines_tell (No n r) (No m s) small also e =
-    let rests = append_cancel_left (codes "no ") (decimal n ++ (32 ∷ (word_of r ++ newline))) (decimal m
-    ++ (32 ∷ (word_of s ++ newline))) (sym (no_line n r) ∙ e ∙ no_line m s) in
+    let rests = append_cancel_left (codes "no ") (decimal n ++ (32 ∷ (rule_word r ++ newline))) (decimal m
+    ++ (32 ∷ (rule_word s ++ newline))) (sym (no_line n r) ∙ e ∙ no_line m s) in
     let numbers : decimal n ≡ decimal m =
-    sym (before_is 32 (decimal n) (word_of r ++ newline) (digits_alone n small)) ∙ ap (before 32) rests
-    ∙ before_is 32 (decimal m) (word_of s ++ newline) (digits_alone m also)
+    sym (before_is 32 (decimal n) (rule_word r ++ newline) (digits_alone n small)) ∙ ap (before 32) rests
+    ∙ before_is 32 (decimal m) (rule_word s ++ newline) (digits_alone m also)
     in
-    let words : word_of r ++ newline ≡ word_of s ++ newline =
-    sym (after_is 32 (decimal n) (word_of r ++ newline) (digits_alone n small)) ∙ ap (after 32) rests
-    ∙ after_is 32 (decimal m) (word_of s ++ newline) (digits_alone m also)
+    let words : rule_word r ++ newline ≡ rule_word s ++ newline =
+    sym (after_is 32 (decimal n) (rule_word r ++ newline) (digits_alone n small)) ∙ ap (after 32) rests
+    ∙ after_is 32 (decimal m) (rule_word s ++ newline) (digits_alone m also)
     in
-    let same : r ≡ s = sym (rule_again r) ∙ ap rule_by (append_cancel_right (word_of r) (word_of s) newline words)
+    let same : r ≡ s = sym (rule_again r) ∙ ap rule_by (append_cancel_right (rule_word r) (rule_word s) newline words)
     ∙ rule_again s in
     ap (λ (k : ℕ). No k r) (decimal_injective n m small also numbers) ∙ ap (No m) same
 
@@ -132,7 +133,7 @@ within_at : (most n : ℕ) (o : Option Rule) → n ≤ most → Within most (opt
 within_at most n None few = within_none most
 within_at most n (Some r) few = within_some most (broken_at n r) few
 
-within_first : (most : ℕ) (x y : Option Broken) → Within most x → Within most y → Within most (first_of x y)
+within_first : (most : ℕ) (x y : Option Broken) → Within most x → Within most y → Within most (first_broken_of x y)
 within_first most None y one two = two
 within_first most (Some x) y one two = one
 
@@ -150,31 +151,31 @@ module _ {Style Mb P Fault MessageFault : Type 0} (decoding : Decoding Style Mb 
       let n : most ≤ most = omega arith in
       within_if most (not (eqb piece.header.half rules.half)) (Some (broken_at (present items) rule.Packet)) _
       (within_some most (broken_at (present items) rule.Packet) (going items))
-      (within_if most (is_of (last_picture items) piece) _ _
+      (within_if most (is_of_piece (last_picture items) piece) _ _
       (within_at most (present items) (broken_within decoding read rules (last_picture items) piece) (going items))
       (within_if most (not (last_is_whole rules items)) (Some (broken_at (present items) rule.Gap)) _
       (within_some most (broken_at (present items) rule.Gap) (going items))
       (within_if most (not (eqb piece.header.number (pictures_in items % period rules)))
       (Some (broken_at most rule.Number)) _ (within_some most (broken_at most rule.Number) n)
-      (within_if most (not (has_reference decoding read rules items piece.header))
+      (within_if most (not (item_has_reference decoding read rules items piece.header))
       (Some (broken_at most rule.Reference)) None (within_some most (broken_at most rule.Reference) n)
       (within_none most)))))
 
-  count_stays : (items : List (Item Style Mb)) (part : Part Style Mb) → pictures_in (with_part items part)
+  count_stays : (items : List (Item Style Mb)) (part : StreamPart Style Mb) → pictures_in (items_with_part items part)
       ≡ pictures_in items
   count_stays [] part = refl
   count_stays (Picture p ∷ items) part = refl
   count_stays (Feedback bytes ∷ items) part = count_stays items part
 
-  one_more : (t : Bool) (items : List (Item Style Mb)) (part : Part Style Mb)
-      → pictures_in (if t then with_part items part else Picture (begun_by part) ∷ items) ≤ pictures_in items + 1
+  one_more : (t : Bool) (items : List (Item Style Mb)) (part : StreamPart Style Mb)
+      → pictures_in (if t then items_with_part items part else Picture (begun_by part) ∷ items) ≤ pictures_in items + 1
   one_more true items part = omega (arith, count_stays items part)
   one_more false items part = omega arith
 
   bytes_more : (items : List (Item Style Mb)) (bytes : List ℕ) (r : Result (Piece Style Mb) Fault)
-      → pictures_in (with_bytes decoding items bytes r) ≤ pictures_in items + 1
-  bytes_more items bytes (Ok piece) = let part : Part Style Mb = record { bytes = bytes; piece = piece } in
-      one_more (is_of (last_picture items) piece) items part
+      → pictures_in (items_with_bytes decoding items bytes r) ≤ pictures_in items + 1
+  bytes_more items bytes (Ok piece) = let part : StreamPart Style Mb = record { bytes = bytes; piece = piece } in
+      one_more (is_of_piece (last_picture items) piece) items part
   bytes_more items bytes (Err fault) = omega arith
 
   pub few_pictures : (log : List LogEntry) → pictures_in (stream_of decoding log) ≤ length log

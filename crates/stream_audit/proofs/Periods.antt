@@ -15,7 +15,7 @@ use Rattle.picture_header.specs.declared.header.Header.{Header}
 use Rattle.picture_header.specs.Text.{header, reference, allowed_low, IsHeaderText}
 use Rattle.h263_payload.specs.Headed.{IsHeaded}
 use Rattle.h263_payload.specs.Text.{IsExtra}
-use Rattle.packet_collector.specs.Packet.{Slice, IsPacket, packet_at}
+use Rattle.packet_collector.specs.Packet.{PacketSlice, IsPacket, packet_at}
 use Rattle.call_model.specs.Coding as call
 use Rattle.call_decoding.specs.Rules.{rules_of}
 use Rattle.call_decoding.specs.Styles.{Style}
@@ -64,11 +64,12 @@ in_packet format (Some x) h plen pebit front middle headed extra rest is =
     subst (λ (y : Header). y.trp ≡ Some rest → rest < period_of y.clock) headed.0
     (in_text format x extra.0 extra.6 rest) is
 
-pub reads_in_period : (p : Params) → ((s : Slice) (bytes : List ℕ) → (packet_at p.format bytes ≡ Ok s)
+pub reads_in_period : (p : Params) → ((s : PacketSlice) (bytes : List ℕ) → (packet_at p.format bytes ≡ Ok s)
     ↔ IsPacket p.format s bytes) → ReadsInPeriod (decoding p.format) (rules_of p)
 reads_in_period p exact bytes piece rest reads half is = go (packet_at p.format bytes) refl reads
   where
-    go : (r : Result Slice Fault) → packet_at p.format bytes ≡ r → with_piece r ≡ Ok piece → rest < 2 * half_of p.clock
+    go : (r : Result PacketSlice Fault) → packet_at p.format bytes ≡ r → with_piece r ≡ Ok piece
+        → rest < 2 * half_of p.clock
     go (Err fault) at e = cc
     go (Ok s) at e =
         let one : piece_of s ≡ piece = cc in

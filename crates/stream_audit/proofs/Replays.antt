@@ -11,11 +11,11 @@ use Rattle.call_model.specs.Before.{WasDelivered}
 use Rattle.call_model.specs.IdealCall.{Send, Deliver, Play, Back, NumberedMessage, Got, Lost, about, told_full, Call, Source, reconstruction_at, with_arrival, slices_at, is_full, newest_full, full_flags, delivery_counts, MayHappen}
 use Rattle.call_model.specs.Sending.{header_of, nearest_below, known_by_feedback}
 use Rattle.call_model.specs.Receiving.{ReceiverRun, Heard, heard, after_packet, after_play, played_message, played_mark, played_picture}
-use Rattle.call_model.specs.Sound.{IsSoundPicture, IsPacket, Packets, IsSoundEvent, received, delivery_answer, FollowsTheCall, is_refused}
+use Rattle.call_model.specs.Sound.{IsSoundPicture, IsPacketOfSlice, Packets, IsSoundEvent, received, delivery_answer, FollowsTheCall, is_refused}
 use Rattle.call_model.specs.TwoStores.{travelling}
-use Rattle.stream_audit.specs.Stream.{Part, StreamPicture, Item, Picture, Feedback, pictures_in, picture_in, packets_of, packets_in, known_of, slices_of}
+use Rattle.stream_audit.specs.Stream.{StreamPart, StreamPicture, Item, Picture, Feedback, pictures_in, picture_numbered, part_packets, stream_packets, known_of, part_slices}
 use Rattle.stream_audit.specs.Sound.{IsSound, IsSoundAfter}
-use Rattle.stream_audit.specs.Replay.{Happens, MessageAbout, PassedOver, Replay, StreamEvent, decoded_in, decoded_next, events_in, item_at, said_to, CameInTime, after_bytes, said_at_play, replay, MayHappenIn, AllMayHappenIn, NoneIsRefused, ExactWhereAllCame, ReadsInPeriod}
+use Rattle.stream_audit.specs.Replay.{Happens, MessageAbout, PassedOver, Replay, StreamEvent, decoded_in, decoded_next, events_in, item_at, about_said_to, CameInTime, replay_after_bytes, replayed_said, replay, MayHappenIn, AllMayHappenIn, NoneIsRefused, ExactWhereAllCame, ReadsInPeriod}
 use Rattle.stream_audit.proofs.Lists.{length_map, not_none, slice_get_left, slice_get_push}
 use Rattle.stream_audit.proofs.Streams.{item_next, split_next, pictures_more, picture_here, sound_before, sound_at}
 use Rattle.stream_audit.proofs.Calls.{CallLaws, told_of, map_two, coded_of, source, packets, call, IsOf, At, says, no_count, told_by_play, slices_are, is_full_from, exact_where_full, shown_where_full, header_is, header_of_is}
@@ -82,7 +82,7 @@ module _ {Style Mb P Fault MessageFault : Type 0} (decoding : Decoding Style Mb 
       ∙ ap Some (((laws.nearest rules n rest r.0 (small rest refl)).0 r.1).2)
 
   packet_is : (n j : ℕ) (x : Coded Style Mb P) → IsOf decoding read rules stream n x
-      → IsPacket decoding rules (packets_in stream n) n j x
+      → IsPacketOfSlice decoding rules (stream_packets stream n) n j x
   packet_is n j x is_of = record { read_as = read_as; no_other = no_other }
     where
       p : StreamPicture Style Mb
@@ -91,15 +91,15 @@ module _ {Style Mb P Fault MessageFault : Type 0} (decoding : Decoding Style Mb 
       placed : (placed : List (Item Style Mb)) × (pictures_in placed ≡ n) × IsSoundAfter decoding read rules placed p
       placed = sound_at decoding read rules stream n p sound is_of.there
 
-      bytes_at : slice_get (packets_in stream n) j ≡ option_map (λ part. part.bytes) (slice_get p.parts j)
-      bytes_at = ap (λ (o : Option (StreamPicture Style Mb)). slice_get (option_map_or packets_of o []) j) is_of.there
-          ∙ slice_get-map (λ (part : Part Style Mb). part.bytes) p.parts j
+      bytes_at : slice_get (stream_packets stream n) j ≡ option_map (λ part. part.bytes) (slice_get p.parts j)
+      bytes_at = ap (λ (o : Option (StreamPicture Style Mb)). slice_get (option_map_or part_packets o []) j) is_of.there
+          ∙ slice_get-map (λ (part : StreamPart Style Mb). part.bytes) p.parts j
 
       slice_at : slice_get x.slices j ≡ option_map (λ part. part.piece.slice) (slice_get p.parts j)
       slice_at = ap (λ (l : List (Slice Mb)). slice_get l j) is_of.slices
-          ∙ slice_get-map (λ (part : Part Style Mb). part.piece.slice) p.parts j
+          ∙ slice_get-map (λ (part : StreamPart Style Mb). part.piece.slice) p.parts j
 
-      of_part : (part : Part Style Mb) → slice_get p.parts j ≡ Some part → decoding.read part.bytes
+      of_part : (part : StreamPart Style Mb) → slice_get p.parts j ≡ Some part → decoding.read part.bytes
           ≡ Ok (record { header = header_of rules n x; slice = part.piece.slice })
       of_part part here =
           let got = placed.2.packets j part here in
@@ -128,48 +128,48 @@ module _ {Style Mb P Fault MessageFault : Type 0} (decoding : Decoding Style Mb 
           }) in r) (got.1 ∙ styled)
 
       read_as : (slice : Slice Mb) → slice_get x.slices j ≡ Some slice
-          → (bytes : List ℕ) × (slice_get (packets_in stream n) j ≡ Some bytes)
+          → (bytes : List ℕ) × (slice_get (stream_packets stream n) j ≡ Some bytes)
           × (decoding.read bytes ≡ Ok (record { header = header_of rules n x; slice = slice }))
       read_as slice e =
           elim (slice_get_cases p.parts j).1 [
             | inl h ↦
                 let here : slice_get p.parts j ≡ Some h.0 = h.2 in
                 let same : Some h.0.piece.slice ≡ Some slice = sym (slice_at
-                ∙ ap (λ (o : Option (Part Style Mb)). option_map (λ part. part.piece.slice) o) here) ∙ e in
+                ∙ ap (λ (o : Option (StreamPart Style Mb)). option_map (λ part. part.piece.slice) o) here) ∙ e in
                 let equal : h.0.piece.slice ≡ slice = cc in (
                   h.0.bytes,
-                  bytes_at ∙ ap (λ (o : Option (Part Style Mb)). option_map (λ part. part.bytes) o) here,
+                  bytes_at ∙ ap (λ (o : Option (StreamPart Style Mb)). option_map (λ part. part.bytes) o) here,
                   of_part h.0 here ∙ ap (λ (s : Slice Mb). let r : Result (Piece Style Mb) Fault =
                       Ok (record { header = header_of rules n x; slice = s }) in r) equal,
                 )
             | inr h ↦
                 let none : None ≡ Some slice = sym (slice_at
-                ∙ ap (λ (o : Option (Part Style Mb)). option_map (λ part. part.piece.slice) o) h.1) ∙ e in
+                ∙ ap (λ (o : Option (StreamPart Style Mb)). option_map (λ part. part.piece.slice) o) h.1) ∙ e in
                 absurd (not_none slice (sym none))
           ]
 
-      no_other : slice_get x.slices j ≡ None → slice_get (packets_in stream n) j ≡ None
+      no_other : slice_get x.slices j ≡ None → slice_get (stream_packets stream n) j ≡ None
       no_other e =
           elim (slice_get_cases p.parts j).1 [
             | inl h ↦
                 let some : Some h.0.piece.slice ≡ None = sym (slice_at
-                ∙ ap (λ (o : Option (Part Style Mb)). option_map (λ part. part.piece.slice) o) h.2) ∙ e in
+                ∙ ap (λ (o : Option (StreamPart Style Mb)). option_map (λ part. part.piece.slice) o) h.2) ∙ e in
                 absurd (not_none h.0.piece.slice some)
-            | inr h ↦ bytes_at ∙ ap (λ (o : Option (Part Style Mb)). option_map (λ part. part.bytes) o) h.1
+            | inr h ↦ bytes_at ∙ ap (λ (o : Option (StreamPart Style Mb)). option_map (λ part. part.bytes) o) h.1
           ]
 
   -- a picture that was sent has as many slices as packets
   slices_sent : (past : List StreamEvent) → At decoding read rules stream past → (n : ℕ) → n < length (cl past).coded
-      → length (slices_at (cl past).coded n) ≡ length (packets_in stream n)
+      → length (slices_at (cl past).coded n) ≡ length (stream_packets stream n)
   slices_sent past at n sent =
       elim (slice_get_cases (cl past).coded n).1 [
         | inl h ↦
             let o = at.coded n h.0 h.2 in
             ap length (slices_are (cl past).coded n h.0 h.2)
             ∙ ap length o.slices
-            ∙ length_map (λ (part : Part Style Mb). part.piece.slice) o.picture.parts
-            ∙ sym (length_map (λ (part : Part Style Mb). part.bytes) o.picture.parts)
-            ∙ ap (λ (q : Option (StreamPicture Style Mb)). length (option_map_or packets_of q [])) (sym o.there)
+            ∙ length_map (λ (part : StreamPart Style Mb). part.piece.slice) o.picture.parts
+            ∙ sym (length_map (λ (part : StreamPart Style Mb). part.bytes) o.picture.parts)
+            ∙ ap (λ (q : Option (StreamPicture Style Mb)). length (option_map_or part_packets q [])) (sym o.there)
         | inr h ↦ absurd (omega (arith, h.0, sent))
       ]
 
@@ -185,11 +185,11 @@ module _ {Style Mb P Fault MessageFault : Type 0} (decoding : Decoding Style Mb 
       → (coded_of decoding read rules stream (length coded) coded p).picture
       ≡ decoded_next decoding rules (map (λ x. x.picture) coded) p
   new_decoded coded p =
-      ap (λ (o : Option P). reconstruction_of_slices decoding.pictures p.header.style o (slices_of p))
+      ap (λ (o : Option P). reconstruction_of_slices decoding.pictures p.header.style o (part_slices p))
       (picture_before coded (option_and_then (nearest_below rules (length coded)) p.header.reference))
       ∙ ap (λ (k : ℕ). reconstruction_of_slices decoding.pictures p.header.style
       (option_and_then (slice_get (map (λ x. x.picture) coded))
-      (option_and_then (nearest_below rules k) p.header.reference)) (slices_of p))
+      (option_and_then (nearest_below rules k) p.header.reference)) (part_slices p))
       (sym (length_map (λ (x : Coded Style Mb P). x.picture) coded))
 
   -- later items change none of them
@@ -252,7 +252,7 @@ module _ {Style Mb P Fault MessageFault : Type 0} (decoding : Decoding Style Mb 
           | inl old ↦ at.coded n x old
           | inr last ↦ record {
             picture = p;
-            there = ap (λ (k : ℕ). picture_in stream k) last.0 ∙ here;
+            there = ap (λ (k : ℕ). picture_numbered stream k) last.0 ∙ here;
             slices = ap (λ (y : Coded Style Mb P). y.slices) last.1;
             style = ap (λ (y : Coded Style Mb P). y.style) last.1;
             reference = ap (λ (y : Coded Style Mb P). y.reference) last.1
@@ -276,9 +276,10 @@ module _ {Style Mb P Fault MessageFault : Type 0} (decoding : Decoding Style Mb 
       split' : stream ≡ next.0 ++ Picture p ∷ at.done
       split' = split_next stream at.more at.done next.0 (Picture p) at.split next.1
 
-      here : picture_in stream (length (cl past).coded) ≡ Some p
-      here = ap (picture_in stream) (sym at.pictures)
-          ∙ ap (λ (l : List (Item Style Mb)). picture_in l (pictures_in at.done)) split' ∙ picture_here next.0 at.done p
+      here : picture_numbered stream (length (cl past).coded) ≡ Some p
+      here = ap (picture_numbered stream) (sym at.pictures)
+          ∙ ap (λ (l : List (Item Style Mb)). picture_numbered l (pictures_in at.done)) split'
+          ∙ picture_here next.0 at.done p
 
       new : Coded Style Mb P
       new = coded_of decoding read rules stream (length (cl past).coded) (cl past).coded p
@@ -305,7 +306,7 @@ module _ {Style Mb P Fault MessageFault : Type 0} (decoding : Decoding Style Mb 
       → MayHappenIn decoding read rules stream (rp past) (Happens (Deliver n j))
       → At decoding read rules stream (Happens (Deliver n j) ∷ past)
   deliver past n j at near =
-      elim (slice_get_cases (packets_in stream n) j).1 [ inl h ↦ of_packet h.0 h.2 | inr h ↦ of_none h.1 h.0 ]
+      elim (slice_get_cases (stream_packets stream n) j).1 [ inl h ↦ of_packet h.0 h.2 | inr h ↦ of_none h.1 h.0 ]
     where
       near' : MayHappen rules (pictures_in stream) (cl past) (Deliver n j)
       near' = (omega (arith, near.0, at.sent), omega (arith, near.1, played_is past at))
@@ -314,12 +315,13 @@ module _ {Style Mb P Fault MessageFault : Type 0} (decoding : Decoding Style Mb 
       sound' x at_n = packet_is n j x (at.coded n x at_n)
 
       -- what the replay and the receiver's run come to, by what is delivered
-      replay_is : (o : Option (List ℕ)) → slice_get (packets_in stream n) j ≡ o → rp (Happens (Deliver n j) ∷ past)
-          ≡ option_map_or (after_bytes decoding read rules stream (rp past) n) o (rp past)
-      replay_is o e = ap (λ (o : Option (List ℕ)). option_map_or (after_bytes decoding read rules stream (rp past) n) o
+      replay_is : (o : Option (List ℕ)) → slice_get (stream_packets stream n) j ≡ o → rp (Happens (Deliver n j) ∷ past)
+          ≡ option_map_or (replay_after_bytes decoding read rules stream (rp past) n) o (rp past)
+      replay_is o e = ap (λ (o : Option (List ℕ)). option_map_or (replay_after_bytes decoding read rules stream
+          (rp past) n) o
           (rp past)) e
 
-      received_is : (o : Option (List ℕ)) → slice_get (packets_in stream n) j ≡ o
+      received_is : (o : Option (List ℕ)) → slice_get (stream_packets stream n) j ≡ o
           → received decoding rules src pks (Deliver n j ∷ events_in past)
           ≡ option_map_or (λ bytes. after_packet decoding rules bytes
           (received decoding rules src pks (events_in past))) o (received decoding rules src pks (events_in past))
@@ -347,20 +349,20 @@ module _ {Style Mb P Fault MessageFault : Type 0} (decoding : Decoding Style Mb 
         decoded = at.decoded;
       }
 
-      of_packet : (bytes : List ℕ) → slice_get (packets_in stream n) j ≡ Some bytes
+      of_packet : (bytes : List ℕ) → slice_get (stream_packets stream n) j ≡ Some bytes
           → At decoding read rules stream (Happens (Deliver n j) ∷ past)
       of_packet bytes e =
           let answer : heard decoding rules (rp past).receiver (decoding.read bytes)
           ≡ delivery_answer rules (cl past) n j =
           ap (λ (r : ReceiverRun Style Mb P). heard decoding rules r (decoding.read bytes)) at.receiver
           ∙ (follows_at past at).answers n j bytes near' sound' e in
-          let said' : (rp past).said ++ said_to n (heard decoding rules (rp past).receiver (decoding.read bytes))
+          let said' : (rp past).said ++ about_said_to n (heard decoding rules (rp past).receiver (decoding.read bytes))
           ≡ map (told_of rules) (cl (Happens (Deliver n j) ∷ past)).said =
-          ap (λ (h : Heard Fault). (rp past).said ++ said_to n h) answer
+          ap (λ (h : Heard Fault). (rp past).said ++ about_said_to n h) answer
           ∙ ap (λ (l : List MessageAbout). (rp past).said
           ++ l) (says Fault rules (cl past) n j (omega (
             arith,
-            slice_get_within (packets_in stream n) j bytes e,
+            slice_get_within (stream_packets stream n) j bytes e,
             slices_sent past at n near'.0,
           )))
           ∙ ap (λ (l : List MessageAbout). l
@@ -368,10 +370,11 @@ module _ {Style Mb P Fault MessageFault : Type 0} (decoding : Decoding Style Mb 
           (with_arrival (cl past).arrivals n j) n then Got n
           (full_flags rules (cl past).coded (with_arrival (cl past).arrivals n j) n) ∷ [] else [])) at.said
           ∙ map_two (told_of rules) (cl past).said _ in
-          delivered_as (after_bytes decoding read rules stream (rp past) n bytes) (replay_is (Some bytes) e) refl refl
+          delivered_as (replay_after_bytes decoding read rules stream (rp past) n bytes) (replay_is (Some bytes) e) refl
+          refl
           (ap (after_packet decoding rules bytes) at.receiver ∙ sym (received_is (Some bytes) e)) said'
 
-      of_none : slice_get (packets_in stream n) j ≡ None → length (packets_in stream n) ≤ j
+      of_none : slice_get (stream_packets stream n) j ≡ None → length (stream_packets stream n) ≤ j
           → At decoding read rules stream (Happens (Deliver n j) ∷ past)
       of_none e far =
           let counts : delivery_counts rules (cl past) n j
@@ -407,7 +410,7 @@ module _ {Style Mb P Fault MessageFault : Type 0} (decoding : Decoding Style Mb 
         pictures = at.pictures;
         known = at.known;
         receiver = ap (after_play decoding rules) at.receiver;
-        said = ap (λ (r : ReceiverRun Style Mb P). (rp past).said ++ said_at_play decoding read rules stream r)
+        said = ap (λ (r : ReceiverRun Style Mb P). (rp past).said ++ replayed_said decoding read rules stream r)
             at.receiver
             ∙ ap (λ (k : ℕ). (rp past).said ++ option_map_or (λ m. let t : MessageAbout = record {
               about = k;
@@ -549,7 +552,7 @@ module _ {Style Mb P Fault MessageFault : Type 0} (decoding : Decoding Style Mb 
 
   -- what came in time was delivered
   delivered : (past : List StreamEvent) → AllMayHappenIn decoding read rules stream past → (n j : ℕ)
-      → j < length (packets_in stream n) → CameInTime rules (events_in past) n j
+      → j < length (stream_packets stream n) → CameInTime rules (events_in past) n j
       → WasDelivered decoding.pictures rules src (events_in past) n j
   delivered [] near n j lt came = came
   delivered (Happens Send ∷ past) near n j lt came = delivered past near.1 n j lt came
@@ -575,14 +578,14 @@ module _ {Style Mb P Fault MessageFault : Type 0} (decoding : Decoding Style Mb 
         at.sent,
         played_is past at,
       ) in
-      let each : (j : ℕ) → j < length (packets_in stream (cl past).played)
+      let each : (j : ℕ) → j < length (stream_packets stream (cl past).played)
       → CameInTime rules (events_in past) (cl past).played j =
-      subst (λ (k : ℕ). (j : ℕ) → j < length (packets_in stream k) → CameInTime rules (events_in past) k j)
+      subst (λ (k : ℕ). (j : ℕ) → j < length (stream_packets stream k) → CameInTime rules (events_in past) k j)
       (played_is past at) all in
       let slices = slices_sent past at (cl past).played near' in
       let full : is_full (cl past).coded (cl past).arrivals (cl past).played ≡ true =
       is_full_from laws.below (cl past).coded (cl past).arrivals (cl past).played near'
-      (λ j lt. let fits : j < length (packets_in stream (cl past).played) = omega (arith, slices) in
+      (λ j lt. let fits : j < length (stream_packets stream (cl past).played) = omega (arith, slices) in
       (laws.arrived src (events_in past) (cl past).played j).1 (delivered past near.1 (cl past).played j fits
       (each j fits))) in
       let shown = ((follows_at past at).plays near').0 in

@@ -3,7 +3,7 @@ use Rattle.std.proofs.Common.{◌∙◌, ap, None, ◌≡◌, ℕ, ◌+◌, ◌<
 use Rattle.std.specs.Prelude.{if◌then◌else◌, Result}
 use Rattle.std.proofs.lemmas.Bool.{eq-eqb, ne_eqb, cases_eq}
 use Rattle.call_model.specs.Coding.{Rules, Message, Decoding}
-use Rattle.stream_audit.specs.Stream.{Item, Picture, Feedback, StreamPicture, pictures_in, picture_in}
+use Rattle.stream_audit.specs.Stream.{Item, Picture, Feedback, StreamPicture, pictures_in, picture_numbered}
 use Rattle.stream_audit.specs.Replay.{item_at}
 use Rattle.stream_audit.specs.Sound.{IsSound, IsSoundAfter}
 use Rattle.stream_audit.proofs.Lists.{not_none}
@@ -49,7 +49,7 @@ module _ {Style Mb : Type 0} where
   pictures_more (Feedback bytes ∷ before) items = pictures_more before items
 
   pub picture_here : (before items : List (Item Style Mb)) (p : StreamPicture Style Mb)
-      → picture_in (before ++ Picture p ∷ items) (pictures_in items) ≡ Some p
+      → picture_numbered (before ++ Picture p ∷ items) (pictures_in items) ≡ Some p
   picture_here [] items p = rw (eq-eqb (pictures_in items) (pictures_in items) refl) refl
   picture_here (Picture q ∷ before) items p =
       let more : pictures_in items + 1 ≤ pictures_in (before ++ Picture p ∷ items) =
@@ -69,18 +69,20 @@ module _ {Style Mb P Fault MessageFault : Type 0} (decoding : Decoding Style Mb 
 
   -- each picture of a sound stream is sound after those before it
   pub sound_at : (items : List (Item Style Mb)) (n : ℕ) (p : StreamPicture Style Mb) → IsSound decoding read rules items
-      → picture_in items n ≡ Some p → (before : List (Item Style Mb)) × (pictures_in before ≡ n)
+      → picture_numbered items n ≡ Some p → (before : List (Item Style Mb)) × (pictures_in before ≡ n)
       × IsSoundAfter decoding read rules before p
   sound_at [] n p sound e = absurd (not_none p (sym e))
   sound_at (Picture q ∷ items) n p sound e =
       elim (cases_eq (pictures_in items) n) [
         | inl is ↦
             let here : eqb (pictures_in items) n ≡ true = eq-eqb (pictures_in items) n is in
-            let same : Some q ≡ Some p = sym (ap (λ (b : Bool). if b then Some q else picture_in items n) here) ∙ e in
+            let same : Some q ≡ Some p = sym (ap (λ (b : Bool). if b then Some q else picture_numbered items n) here)
+            ∙ e in
             let equal : q ≡ p = cc in
             (items, is, subst (λ (r : StreamPicture Style Mb). IsSoundAfter decoding read rules items r) equal sound.0)
         | inr not_here ↦
             let there : eqb (pictures_in items) n ≡ false = ne_eqb (pictures_in items) n not_here in
-            sound_at items n p sound.1 (sym (ap (λ (b : Bool). if b then Some q else picture_in items n) there) ∙ e)
+            sound_at items n p sound.1 (sym (ap (λ (b : Bool). if b then Some q else picture_numbered items n) there)
+            ∙ e)
       ]
   sound_at (Feedback bytes ∷ items) n p sound e = sound_at items n p sound e

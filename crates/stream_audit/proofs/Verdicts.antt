@@ -14,9 +14,9 @@ use Rattle.call_model.specs.Lawful.{Covers, IsDecoding}
 use Rattle.stream_audit.specs.declared.verdict.Rule.{Rule}
 use Rattle.stream_audit.specs.declared.verdict.Rule.TheVariants as rule
 use Rattle.stream_audit.specs.declared.verdict.Verdict.TheVariants.{Yes, No}
-use Rattle.stream_audit.specs.Stream.{LogEntry, Sent, Fed, Part, StreamPicture, Item, Picture, Feedback, pictures_in, last_picture, with_part, with_more, begun_by, with_bytes, slices_of, is_of, known_of, stream_of}
+use Rattle.stream_audit.specs.Stream.{LogEntry, Sent, Fed, StreamPart, StreamPicture, Item, Picture, Feedback, pictures_in, last_picture, items_with_part, with_more, begun_by, items_with_bytes, part_slices, is_of_piece, known_of, stream_of}
 use Rattle.stream_audit.specs.declared.verdict.Broken.{Broken}
-use Rattle.stream_audit.specs.Verdict.{has, is_whole, last_is_whole, present, has_reference, broken_within, broken_next, broken_by, broken_in, first_of, first_broken, verdict_by, verdict_of, broken_at, may_refer}
+use Rattle.stream_audit.specs.Verdict.{has, is_picture_whole, last_is_whole, present, item_has_reference, broken_within, broken_next, broken_by, broken_in, first_broken_of, first_broken, verdict_by, verdict_of, broken_at, may_refer}
 use Rattle.stream_audit.specs.Sound.{IsSound, IsReadable, AllReadable}
 use Rattle.stream_audit.proofs.Headers.{same_header_is}
 use Rattle.stream_audit.proofs.Lists.{not_none, slice_get_push}
@@ -48,12 +48,14 @@ none_of below slice test k none inside =
 
 module _ {Style Mb : Type 0} where
   -- the place of the first packet that has macroblock k
-  pub place_in : List (Part Style Mb) → ℕ → ℕ
+  pub place_in : List (StreamPart Style Mb) → ℕ → ℕ
   place_in [] k = 0
   place_in (part ∷ parts) k = if has_mb part.piece.slice k then 0 else suc (place_in parts k)
 
-  pub first_part : (parts : List (Part Style Mb)) (k : ℕ) → list_any (λ part. has_mb part.piece.slice k) parts ≡ true
-      → (part : Part Style Mb) × (slice_get parts (place_in parts k) ≡ Some part) × (has_mb part.piece.slice k ≡ true)
+  pub first_part : (parts : List (StreamPart Style Mb)) (k : ℕ) → list_any (λ part. has_mb part.piece.slice k) parts
+      ≡ true
+      → (part : StreamPart Style Mb) × (slice_get parts (place_in parts k) ≡ Some part)
+      × (has_mb part.piece.slice k ≡ true)
   unfolding place_in
   first_part [] k e = absurd (false≢true e)
   first_part (part ∷ parts) k e =
@@ -67,16 +69,16 @@ module _ {Style Mb : Type 0} where
       rest : has_mb part.piece.slice k ≡ false → list_any (λ part. has_mb part.piece.slice k) parts ≡ true
       rest there = elim (or_cases _ _ e) [ inl is ↦ absurd (both_ways _ there is) | inr is ↦ is ]
 
-  in_none : (parts : List (Part Style Mb)) (k j : ℕ) (part : Part Style Mb)
+  in_none : (parts : List (StreamPart Style Mb)) (k j : ℕ) (part : StreamPart Style Mb)
       → list_any (λ part. has_mb part.piece.slice k) parts ≡ false → slice_get parts j ≡ Some part
       → has_mb part.piece.slice k ≡ false
   in_none [] k j part none e = cc
   in_none (q ∷ parts) k zero part none e =
       let parts' = or_parts (has_mb q.piece.slice k) (list_any (λ part. has_mb part.piece.slice k) parts) none in
       let same : q ≡ part = one q part e in
-      subst (λ (x : Part Style Mb). has_mb x.piece.slice k ≡ false) same parts'.0
+      subst (λ (x : StreamPart Style Mb). has_mb x.piece.slice k ≡ false) same parts'.0
     where
-      one : (q part : Part Style Mb) → Some q ≡ Some part → q ≡ part
+      one : (q part : StreamPart Style Mb) → Some q ≡ Some part → q ≡ part
       one q part e = cc
   in_none (q ∷ parts) k (suc j) part none e =
       let parts' = or_parts (has_mb q.piece.slice k) (list_any (λ part. has_mb part.piece.slice k) parts) none in
@@ -88,12 +90,12 @@ module _ {Style Mb P Fault MessageFault : Type 0} (decoding : Decoding Style Mb 
   pub record IsGoing (items : List (Item Style Mb)) (p : StreamPicture Style Mb) : Type 0 where
     pub number : p.header.number ≡ pictures_in items % period rules
     pub half : p.header.half ≡ rules.half
-    pub packets : (j : ℕ) (part : Part Style Mb) → slice_get p.parts j ≡ Some part
+    pub packets : (j : ℕ) (part : StreamPart Style Mb) → slice_get p.parts j ≡ Some part
         → (decoding.read part.bytes ≡ Ok part.piece) × (part.piece.header ≡ p.header)
     pub reference : (rest : ℕ) → p.header.reference ≡ Some rest
         → (m : ℕ) × (nearest_below rules (pictures_in items) rest ≡ Some m)
         × (pictures_in items ≤ m + window rules) × (is_among (known_of read rules items) m ≡ true)
-    pub apart : (i j k : ℕ) (a b : Part Style Mb) → slice_get p.parts i ≡ Some a → slice_get p.parts j ≡ Some b
+    pub apart : (i j k : ℕ) (a b : StreamPart Style Mb) → slice_get p.parts i ≡ Some a → slice_get p.parts j ≡ Some b
         → has_mb a.piece.slice k ≡ true → has_mb b.piece.slice k ≡ true → i ≡ j
 
   abbrev pub IsClean : List (Item Style Mb) → Type 0
@@ -103,15 +105,16 @@ module _ {Style Mb P Fault MessageFault : Type 0} (decoding : Decoding Style Mb 
 
   -- ---- a picture that is whole
 
-  covered : (items : List (Item Style Mb)) (p : StreamPicture Style Mb) → IsGoing items p → is_whole rules p ≡ true
-      → Covers rules.mbs (slices_of p)
+  covered : (items : List (Item Style Mb)) (p : StreamPicture Style Mb) → IsGoing items p → is_picture_whole rules p
+      ≡ true
+      → Covers rules.mbs (part_slices p)
   covered items p going whole = record {
     place_of = place_in p.parts;
     below = λ k lt.
         let r = first_part p.parts k ((below rules.mbs (has p)).0 whole k lt) in
-        slice_get_within (slices_of p) (place_in p.parts k) r.0.piece.slice
-        (slice_get-map (λ (part : Part Style Mb). part.piece.slice) p.parts (place_in p.parts k)
-        ∙ ap (option_map (λ (part : Part Style Mb). part.piece.slice)) r.1);
+        slice_get_within (part_slices p) (place_in p.parts k) r.0.piece.slice
+        (slice_get-map (λ (part : StreamPart Style Mb). part.piece.slice) p.parts (place_in p.parts k)
+        ∙ ap (option_map (λ (part : StreamPart Style Mb). part.piece.slice)) r.1);
     has = λ j k slice lt at_j.
         let r = first_part p.parts k ((below rules.mbs (has p)).0 whole k lt) in
         let part = of_slice j slice at_j in
@@ -125,7 +128,8 @@ module _ {Style Mb P Fault MessageFault : Type 0} (decoding : Decoding Style Mb 
               let here : slice_get p.parts j ≡ Some r.0 = ap (slice_get p.parts) e ∙ r.1 in
               let one : Some part.0 ≡ Some r.0 = sym part.1 ∙ here in
               let same : part.0 ≡ r.0 = cc in
-              both_ways _ free (subst (λ (s : Slice Mb). has_mb s k ≡ true) (ap (λ (x : Part Style Mb). x.piece.slice)
+              both_ways _ free (subst (λ (s : Slice Mb). has_mb s k
+              ≡ true) (ap (λ (x : StreamPart Style Mb). x.piece.slice)
               (sym same) ∙ part.2) r.2)))
         ];
     inside = λ j slice at_j.
@@ -134,18 +138,19 @@ module _ {Style Mb P Fault MessageFault : Type 0} (decoding : Decoding Style Mb 
         (lawful.read_inside part.0.bytes part.0.piece (going.packets j part.0 part.1).0);
   }
     where
-      of_slice : (j : ℕ) (slice : Slice Mb) → slice_get (slices_of p) j ≡ Some slice → (part : Part Style Mb)
+      of_slice : (j : ℕ) (slice : Slice Mb) → slice_get (part_slices p) j ≡ Some slice → (part : StreamPart Style Mb)
           × (slice_get p.parts j ≡ Some part) × (part.piece.slice ≡ slice)
       of_slice j slice e =
           elim (slice_get_cases p.parts j).1 [
             | inl h ↦
                 let same : Some h.0.piece.slice
-                ≡ Some slice = sym (slice_get-map (λ (part : Part Style Mb). part.piece.slice) p.parts j
-                ∙ ap (option_map (λ (part : Part Style Mb). part.piece.slice)) h.2) ∙ e in
+                ≡ Some slice = sym (slice_get-map (λ (part : StreamPart Style Mb). part.piece.slice) p.parts j
+                ∙ ap (option_map (λ (part : StreamPart Style Mb). part.piece.slice)) h.2) ∙ e in
                 (h.0, h.2, (let equal : h.0.piece.slice ≡ slice = cc in equal))
             | inr h ↦
-                let none : None ≡ Some slice = sym (slice_get-map (λ (part : Part Style Mb). part.piece.slice) p.parts j
-                ∙ ap (option_map (λ (part : Part Style Mb). part.piece.slice)) h.1) ∙ e in
+                let none : None ≡ Some slice =
+                sym (slice_get-map (λ (part : StreamPart Style Mb). part.piece.slice) p.parts j
+                ∙ ap (option_map (λ (part : StreamPart Style Mb). part.piece.slice)) h.1) ∙ e in
                 absurd (not_none slice (sym none))
           ]
 
@@ -167,7 +172,7 @@ module _ {Style Mb P Fault MessageFault : Type 0} (decoding : Decoding Style Mb 
 
   -- ---- a packet of the last picture
 
-  more_of : (items : List (Item Style Mb)) (p : StreamPicture Style Mb) (part : Part Style Mb)
+  more_of : (items : List (Item Style Mb)) (p : StreamPicture Style Mb) (part : StreamPart Style Mb)
       → decoding.read part.bytes ≡ Ok part.piece → IsGoing items p
       → broken_within decoding read rules (Some p) part.piece ≡ None → IsGoing items (with_more p part)
   more_of items p part reads going unbroken =
@@ -185,7 +190,8 @@ module _ {Style Mb P Fault MessageFault : Type 0} (decoding : Decoding Style Mb 
         half = going.half;
         packets = λ j x at_j. elim (slice_get_push p.parts part j x at_j) [
           | inl old ↦ going.packets j x old
-          | inr new ↦ subst (λ (y : Part Style Mb). (decoding.read y.bytes ≡ Ok y.piece) × (y.piece.header ≡ p.header))
+          | inr new ↦ subst (λ (y : StreamPart Style Mb). (decoding.read y.bytes ≡ Ok y.piece)
+              × (y.piece.header ≡ p.header))
               (sym new.1) (reads, header)
         ];
         reference = going.reference;
@@ -202,23 +208,24 @@ module _ {Style Mb P Fault MessageFault : Type 0} (decoding : Decoding Style Mb 
             ];
       }
         where
-          crossed : (k i : ℕ) (a b : Part Style Mb) → slice_get p.parts i ≡ Some a → b ≡ part → has_mb a.piece.slice k
+          crossed : (k i : ℕ) (a b : StreamPart Style Mb) → slice_get p.parts i ≡ Some a → b ≡ part
+              → has_mb a.piece.slice k
               ≡ true → has_mb b.piece.slice k ≡ true → ⊥
           crossed k i a b old new in_a in_b =
               let outside : has p k ≡ false = none_of below part.piece.slice (has p) k none
-              (subst (λ (y : Part Style Mb). has_mb y.piece.slice k ≡ true) new in_b) in
+              (subst (λ (y : StreamPart Style Mb). has_mb y.piece.slice k ≡ true) new in_b) in
               both_ways _ (in_none p.parts k i a outside old) in_a
 
-  clean_part : (items : List (Item Style Mb)) (part : Part Style Mb) → decoding.read part.bytes ≡ Ok part.piece
+  clean_part : (items : List (Item Style Mb)) (part : StreamPart Style Mb) → decoding.read part.bytes ≡ Ok part.piece
       → IsClean items → broken_within decoding read rules (last_picture items) part.piece ≡ None
-      → IsClean (with_part items part)
+      → IsClean (items_with_part items part)
   clean_part [] part reads clean unbroken = tt
   clean_part (Feedback bytes ∷ items) part reads clean unbroken = clean_part items part reads clean unbroken
   clean_part (Picture p ∷ items) part reads clean unbroken = (more_of items p part reads clean.0 unbroken, clean.1)
 
   -- ---- the first packet of the next picture
 
-  next_of : (items : List (Item Style Mb)) (part : Part Style Mb) → decoding.read part.bytes ≡ Ok part.piece
+  next_of : (items : List (Item Style Mb)) (part : StreamPart Style Mb) → decoding.read part.bytes ≡ Ok part.piece
       → part.piece.header.half ≡ rules.half → IsClean items → broken_next decoding read rules items part.piece ≡ None
       → IsClean (Picture (begun_by part) ∷ items)
   next_of items part reads half clean unbroken =
@@ -227,7 +234,7 @@ module _ {Style Mb P Fault MessageFault : Type 0} (decoding : Decoding Style Mb 
         | inl whole ↦ elim (cases_Bool (eqb part.piece.header.number (pictures_in items % period rules))) [
           | inr wrong ↦ absurd (not_none (broken_at (pictures_in items) rule.Number) (sym (rw (whole, wrong) refl)
               ∙ unbroken))
-          | inl right ↦ elim (cases_Bool (has_reference decoding read rules items part.piece.header)) [
+          | inl right ↦ elim (cases_Bool (item_has_reference decoding read rules items part.piece.header)) [
             | inr none ↦ absurd (not_none (broken_at (pictures_in items) rule.Reference)
                 (sym (rw (whole, right, none) refl) ∙ unbroken))
             | inl there ↦ (begun (eqb-true _ _ right) there, whole_is_sound items clean whole)
@@ -235,16 +242,16 @@ module _ {Style Mb P Fault MessageFault : Type 0} (decoding : Decoding Style Mb 
         ]
       ]
     where
-      one : (x : Part Style Mb) (j : ℕ) → slice_get (part ∷ []) j ≡ Some x → (j ≡ 0) × (x ≡ part)
+      one : (x : StreamPart Style Mb) (j : ℕ) → slice_get (part ∷ []) j ≡ Some x → (j ≡ 0) × (x ≡ part)
       one x zero e = (refl, cc)
       one x (suc j) e = cc
 
       begun : part.piece.header.number ≡ pictures_in items % period rules
-          → has_reference decoding read rules items part.piece.header ≡ true → IsGoing items (begun_by part)
+          → item_has_reference decoding read rules items part.piece.header ≡ true → IsGoing items (begun_by part)
       begun number there = record {
         number = number;
         half = half;
-        packets = λ j x at_j. subst (λ (y : Part Style Mb). (decoding.read y.bytes ≡ Ok y.piece)
+        packets = λ j x at_j. subst (λ (y : StreamPart Style Mb). (decoding.read y.bytes ≡ Ok y.piece)
             × (y.piece.header ≡ part.piece.header)) (sym (one x j at_j).1) (reads, refl);
         reference = λ rest is. named rest (subst (λ (o : Option ℕ). option_map_or (λ rest.
             option_map_or (may_refer rules (known_of read rules items) (pictures_in items))
@@ -271,12 +278,12 @@ module _ {Style Mb P Fault MessageFault : Type 0} (decoding : Decoding Style Mb 
 
   clean_packet : (items : List (Item Style Mb)) (bytes : List ℕ) (r : Result (Piece Style Mb) Fault)
       → decoding.read bytes ≡ r → IsClean items → broken_by decoding read rules items r ≡ None
-      → IsClean (with_bytes decoding items bytes r)
+      → IsClean (items_with_bytes decoding items bytes r)
   clean_packet items bytes (Err fault) reads clean unbroken = clean
   clean_packet items bytes (Ok piece) reads clean unbroken =
       elim (cases_Bool (eqb piece.header.half rules.half)) [
         | inr other ↦ absurd (not_none (broken_at (present items) rule.Packet) (sym (rw other refl) ∙ unbroken))
-        | inl half ↦ elim (cases_Bool (is_of (last_picture items) piece)) [
+        | inl half ↦ elim (cases_Bool (is_of_piece (last_picture items) piece)) [
           | inl own ↦
               let unbroken' : option_map (broken_at (present items))
               (broken_within decoding read rules (last_picture items) piece) ≡ None = sym (rw (half, own) refl)
@@ -295,7 +302,7 @@ module _ {Style Mb P Fault MessageFault : Type 0} (decoding : Decoding Style Mb 
       within None e = refl
       within (Some r) e = absurd (not_none (broken_at (present items) r) e)
 
-  both_none : (a b : Option Broken) → first_of a b ≡ None → (a ≡ None) × (b ≡ None)
+  both_none : (a b : Option Broken) → first_broken_of a b ≡ None → (a ≡ None) × (b ≡ None)
   both_none None b e = (refl, e)
   both_none (Some x) b e = absurd (not_none x e)
 

@@ -10,7 +10,7 @@ use Rattle.call_model.specs.Receiving.{ReceiverRun, Heard, Completed, heard, aft
 use Rattle.call_model.specs.Sending.{known_by_feedback, nearest_below}
 use Rattle.call_model.specs.Sound.{is_refused}
 use Rattle.stream_audit.specs.declared.verdict.Verdict.TheVariants.{Yes}
-use Rattle.stream_audit.specs.Stream.{LogEntry, StreamPicture, Item, Picture, Feedback, packets_in, slices_of, stream_of}
+use Rattle.stream_audit.specs.Stream.{LogEntry, StreamPicture, Item, Picture, Feedback, stream_packets, part_slices, stream_of}
 use Rattle.stream_audit.specs.Verdict.{verdict_of}
 
 -- a message that the receiver said, and the picture that it is about
@@ -44,9 +44,9 @@ item_at [] k = None
 item_at (item ∷ items) k = if length items == k then Some item else item_at items k
 
 -- what the receiver says to a packet of picture n with this answer
-abbrev pub said_to : {Fault : Type 0} → ℕ → Heard Fault → List MessageAbout
-said_to n (Completed message) = record { about = n; message = message } ∷ []
-said_to n _ = []
+abbrev pub about_said_to : {Fault : Type 0} → ℕ → Heard Fault → List MessageAbout
+about_said_to n (Completed message) = record { about = n; message = message } ∷ []
+about_said_to n _ = []
 
 -- the packet at place j of picture n was delivered while n was open
 abbrev pub CameInTime : Rules → List Event → ℕ → ℕ → Type 0
@@ -62,7 +62,7 @@ module _ {Style Mb P Fault : Type 0} (decoding : Decoding Style Mb P Fault) (rul
   decoded_next before p =
       let reference = option_and_then (nearest_below rules (length before)) p.header.reference in
       reconstruction_of_slices decoding.pictures p.header.style
-      (option_and_then (slice_get before) reference) (slices_of p)
+      (option_and_then (slice_get before) reference) (part_slices p)
 
   -- the pictures of a stream as they are decoded, the first of them first
   abbrev pub decoded_in : List (Item Style Mb) → List P
@@ -72,32 +72,33 @@ module _ {Style Mb P Fault : Type 0} (decoding : Decoding Style Mb P Fault) (rul
 
 module _ {Style Mb P Fault MessageFault : Type 0} (decoding : Decoding Style Mb P Fault)
     (read : List ℕ → Result Message MessageFault) (rules : Rules) (stream : List (Item Style Mb)) where
-  abbrev pub after_bytes : Replay Style Mb P → ℕ → List ℕ → Replay Style Mb P
-  after_bytes w n bytes = record w {
+  abbrev pub replay_after_bytes : Replay Style Mb P → ℕ → List ℕ → Replay Style Mb P
+  replay_after_bytes w n bytes = record w {
     receiver = after_packet decoding rules bytes w.receiver;
-    said = w.said ++ said_to n (heard decoding rules w.receiver (decoding.read bytes));
+    said = w.said ++ about_said_to n (heard decoding rules w.receiver (decoding.read bytes));
   }
 
-  abbrev pub said_at_play : ReceiverRun Style Mb P → List MessageAbout
-  said_at_play r =
+  abbrev pub replayed_said : ReceiverRun Style Mb P → List MessageAbout
+  replayed_said r =
       option_map_or (λ m. record { about = r.played; message = m } ∷ []) (played_message decoding rules r) []
 
   -- One event more: the next picture of the stream is sent, a packet of a picture is delivered, the
   -- next picture is played, the next feedback of the stream is brought back, or it is passed over.
-  abbrev pub after_event : Replay Style Mb P → StreamEvent → Replay Style Mb P
-  after_event w (Happens Send) = record w { items = w.items + 1; sent = w.sent + 1 }
-  after_event w (Happens (Deliver n j)) = option_map_or (after_bytes w n) (slice_get (packets_in stream n) j) w
-  after_event w (Happens Play) = record w {
+  abbrev pub replay_after_event : Replay Style Mb P → StreamEvent → Replay Style Mb P
+  replay_after_event w (Happens Send) = record w { items = w.items + 1; sent = w.sent + 1 }
+  replay_after_event w (Happens (Deliver n j)) = option_map_or (replay_after_bytes w n)
+      (slice_get (stream_packets stream n) j) w
+  replay_after_event w (Happens Play) = record w {
     receiver = after_play decoding rules w.receiver;
-    said = w.said ++ said_at_play w.receiver;
+    said = w.said ++ replayed_said w.receiver;
   }
-  after_event w (Happens (Back k)) = record w { items = w.items + 1 }
-  after_event w PassedOver = record w { items = w.items + 1 }
+  replay_after_event w (Happens (Back k)) = record w { items = w.items + 1 }
+  replay_after_event w PassedOver = record w { items = w.items + 1 }
 
   -- the receiver after these events, the newest first
   abbrev pub replay : List StreamEvent → Replay Style Mb P
   replay [] = record { items = 0; sent = 0; receiver = receiver_run decoding rules []; said = [] }
-  replay (e ∷ past) = after_event (replay past) e
+  replay (e ∷ past) = replay_after_event (replay past) e
 
   -- The event is in place: the next item of the stream is a picture, the picture was sent, the next
   -- item is feedback that spells message k. And it is near: its picture is less than half a period
@@ -121,7 +122,7 @@ module _ {Style Mb P Fault MessageFault : Type 0} (decoding : Decoding Style Mb 
   -- a packet that is delivered is not refused
   abbrev pub NoneIsRefused : Type 0
   NoneIsRefused = (past : List StreamEvent) (n j : ℕ) (bytes : List ℕ) →
-      AllMayHappenIn (Happens (Deliver n j) ∷ past) → slice_get (packets_in stream n) j ≡ Some bytes
+      AllMayHappenIn (Happens (Deliver n j) ∷ past) → slice_get (stream_packets stream n) j ≡ Some bytes
       → is_refused (heard decoding rules (replay past).receiver (decoding.read bytes)) ≡ false
 
   -- a picture whose packets all came in time is marked exact, and shown as the stream has it decoded
@@ -129,7 +130,7 @@ module _ {Style Mb P Fault MessageFault : Type 0} (decoding : Decoding Style Mb 
   ExactWhereAllCame = (past : List StreamEvent) →
       let n = (replay past).receiver.played in
       AllMayHappenIn (Happens Play ∷ past)
-      → ((j : ℕ) → j < length (packets_in stream n) → CameInTime rules (events_in past) n j)
+      → ((j : ℕ) → j < length (stream_packets stream n) → CameInTime rules (events_in past) n j)
       → (played_mark decoding rules (replay past).receiver ≡ Exact)
       × (slice_get (decoded_in decoding rules stream) n ≡ Some (played_picture decoding rules (replay past).receiver))
 

@@ -6,7 +6,7 @@ use Rattle.call_model.specs.CodedPictures.{is_among}
 use Rattle.call_model.specs.Sending.{nearest_below}
 use Rattle.call_model.specs.Lawful.{Covers}
 use Rattle.stream_audit.specs.declared.verdict.Verdict.TheVariants.{Yes}
-use Rattle.stream_audit.specs.Stream.{LogEntry, Sent, Fed, Part, StreamPicture, Item, Picture, Feedback, pictures_in, slices_of, known_of, stream_of}
+use Rattle.stream_audit.specs.Stream.{LogEntry, Sent, Fed, StreamPart, StreamPicture, Item, Picture, Feedback, pictures_in, part_slices, known_of, stream_of}
 use Rattle.stream_audit.specs.Verdict.{verdict_of}
 
 module _ {Style Mb P Fault : Type 0} (decoding : Decoding Style Mb P Fault) (rules : Rules) where
@@ -28,9 +28,9 @@ module _ {Style Mb P Fault MessageFault : Type 0} (decoding : Decoding Style Mb 
   pub record IsSoundAfter (items : List (Item Style Mb)) (p : StreamPicture Style Mb) : Type 0 where
     pub number : p.header.number ≡ pictures_in items % period rules
     pub half : p.header.half ≡ rules.half
-    pub packets : (j : ℕ) (part : Part Style Mb) → slice_get p.parts j ≡ Some part
+    pub packets : (j : ℕ) (part : StreamPart Style Mb) → slice_get p.parts j ≡ Some part
         → (decoding.read part.bytes ≡ Ok part.piece) × (part.piece.header ≡ p.header)
-    pub covers : Covers rules.mbs (slices_of p)
+    pub covers : Covers rules.mbs (part_slices p)
     pub reference : (rest : ℕ) → p.header.reference ≡ Some rest
         → (m : ℕ) × (nearest_below rules (pictures_in items) rest ≡ Some m)
         × (pictures_in items ≤ m + window rules) × (is_among (known_of read rules items) m ≡ true)

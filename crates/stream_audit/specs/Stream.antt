@@ -11,14 +11,14 @@ pub data LogEntry : Type 0 where
   Fed : (bytes : List ℕ) → LogEntry
 
 -- the part of a picture that one packet carries: the packet's bytes, and what they spell
-pub record Part (Style Mb : Type 0) : Type 0 where
+pub record StreamPart (Style Mb : Type 0) : Type 0 where
   pub bytes : List ℕ
   pub piece : Piece Style Mb
 
 -- a picture of a stream: the header of its first packet, and its parts in their order
 pub record StreamPicture (Style Mb : Type 0) : Type 0 where
   pub header : Header Style
-  pub parts : List (Part Style Mb)
+  pub parts : List (StreamPart Style Mb)
 
 -- The pictures of a stream among the feedback, as the stream has them. Feedback between two packets
 -- of a picture stands after that picture.
@@ -40,45 +40,46 @@ module _ {Style Mb : Type 0} where
   last_picture (Feedback bytes ∷ items) = last_picture items
 
   -- picture n, which are numbered from 0
-  abbrev pub picture_in : List (Item Style Mb) → ℕ → Option (StreamPicture Style Mb)
-  picture_in [] n = None
-  picture_in (Picture p ∷ items) n = if pictures_in items == n then Some p else picture_in items n
-  picture_in (Feedback bytes ∷ items) n = picture_in items n
+  abbrev pub picture_numbered : List (Item Style Mb) → ℕ → Option (StreamPicture Style Mb)
+  picture_numbered [] n = None
+  picture_numbered (Picture p ∷ items) n = if pictures_in items == n then Some p else picture_numbered items n
+  picture_numbered (Feedback bytes ∷ items) n = picture_numbered items n
 
   -- the picture with one part more
-  abbrev pub with_more : StreamPicture Style Mb → Part Style Mb → StreamPicture Style Mb
+  abbrev pub with_more : StreamPicture Style Mb → StreamPart Style Mb → StreamPicture Style Mb
   with_more p part = record p { parts = p.parts ++ part ∷ [] }
 
   -- the stream with one part more of its last picture
-  abbrev pub with_part : List (Item Style Mb) → Part Style Mb → List (Item Style Mb)
-  with_part [] part = []
-  with_part (Picture p ∷ items) part = Picture (with_more p part) ∷ items
-  with_part (Feedback bytes ∷ items) part = Feedback bytes ∷ with_part items part
+  abbrev pub items_with_part : List (Item Style Mb) → StreamPart Style Mb → List (Item Style Mb)
+  items_with_part [] part = []
+  items_with_part (Picture p ∷ items) part = Picture (with_more p part) ∷ items
+  items_with_part (Feedback bytes ∷ items) part = Feedback bytes ∷ items_with_part items part
 
   -- the picture that a part begins
-  abbrev pub begun_by : Part Style Mb → StreamPicture Style Mb
+  abbrev pub begun_by : StreamPart Style Mb → StreamPicture Style Mb
   begun_by part = record { header = part.piece.header; parts = part ∷ [] }
 
   -- the slices and the packets of a picture
-  abbrev pub slices_of : StreamPicture Style Mb → List (Slice Mb)
-  slices_of p = map (λ part. part.piece.slice) p.parts
+  abbrev pub part_slices : StreamPicture Style Mb → List (Slice Mb)
+  part_slices p = map (λ part. part.piece.slice) p.parts
 
-  abbrev pub packets_of : StreamPicture Style Mb → List (List ℕ)
-  packets_of p = map (λ part. part.bytes) p.parts
+  abbrev pub part_packets : StreamPicture Style Mb → List (List ℕ)
+  part_packets p = map (λ part. part.bytes) p.parts
 
   -- the packets of picture n: none where there is no such picture
-  abbrev pub packets_in : List (Item Style Mb) → ℕ → List (List ℕ)
-  packets_in items n = option_map_or packets_of (picture_in items n) []
+  abbrev pub stream_packets : List (Item Style Mb) → ℕ → List (List ℕ)
+  stream_packets items n = option_map_or part_packets (picture_numbered items n) []
 
   -- the packet is of the picture before it, since it has that one's temporal reference
-  abbrev pub is_of : Option (StreamPicture Style Mb) → Piece Style Mb → Bool
-  is_of None piece = false
-  is_of (Some p) piece = p.header.number == piece.header.number
+  abbrev pub is_of_piece : Option (StreamPicture Style Mb) → Piece Style Mb → Bool
+  is_of_piece None piece = false
+  is_of_piece (Some p) piece = p.header.number == piece.header.number
 
   -- a packet more, which is of the last picture or begins the next one
-  abbrev pub with_packet : List (Item Style Mb) → Part Style Mb → List (Item Style Mb)
-  with_packet items part =
-      if is_of (last_picture items) part.piece then with_part items part else Picture (begun_by part) ∷ items
+  abbrev pub items_with_packet : List (Item Style Mb) → StreamPart Style Mb → List (Item Style Mb)
+  items_with_packet items part =
+      if is_of_piece (last_picture items) part.piece then items_with_part items part else Picture
+      (begun_by part) ∷ items
 
   -- the numbers that the feedback has made known (H.263, Annex N): what is refused or old makes none
   abbrev pub known_of : {MessageFault : Type 0}
@@ -90,13 +91,13 @@ module _ {Style Mb : Type 0} where
 
 module _ {Style Mb P Fault : Type 0} (decoding : Decoding Style Mb P Fault) where
   -- the stream after the bytes of a packet. Bytes that are no packet are passed over
-  abbrev pub with_bytes : List (Item Style Mb)
+  abbrev pub items_with_bytes : List (Item Style Mb)
       → List ℕ → Result (Piece Style Mb) Fault → List (Item Style Mb)
-  with_bytes items bytes (Ok piece) = with_packet items (record { bytes = bytes; piece = piece })
-  with_bytes items bytes (Err fault) = items
+  items_with_bytes items bytes (Ok piece) = items_with_packet items (record { bytes = bytes; piece = piece })
+  items_with_bytes items bytes (Err fault) = items
 
   -- the stream of a log, the newest first in both
   abbrev pub stream_of : List LogEntry → List (Item Style Mb)
   stream_of [] = []
-  stream_of (Sent bytes ∷ past) = with_bytes (stream_of past) bytes (decoding.read bytes)
+  stream_of (Sent bytes ∷ past) = items_with_bytes (stream_of past) bytes (decoding.read bytes)
   stream_of (Fed bytes ∷ past) = Feedback bytes ∷ stream_of past

@@ -8,27 +8,25 @@ use Rattle.stream_audit.specs.declared.verdict.Verdict.{Verdict}
 use Rattle.stream_audit.specs.declared.verdict.Verdict.TheVariants.{Yes, No}
 use Rattle.stream_audit.specs.Logs.{verdict_on}
 use Rattle.stream_audit.specs.Stream.{LogEntry}
+use Rattle.h263_types.specs.Texts.{newline}
 
 -- its bytes
-abbrev pub text_of : Text → List ℕ
-text_of text = text.line.bytes
-
-abbrev pub newline : List ℕ
-newline = 10 ∷ []
+abbrev pub audit_text : Text → List ℕ
+audit_text text = text.line.bytes
 
 -- the word of a rule
-abbrev pub word_of : Rule → List ℕ
-word_of rule.Packet = codes "packet"
-word_of rule.Number = codes "number"
-word_of rule.Header = codes "header"
-word_of rule.Overlap = codes "overlap"
-word_of rule.Gap = codes "gap"
-word_of rule.Reference = codes "reference"
+abbrev pub rule_word : Rule → List ℕ
+rule_word rule.Packet = codes "packet"
+rule_word rule.Number = codes "number"
+rule_word rule.Header = codes "header"
+rule_word rule.Overlap = codes "overlap"
+rule_word rule.Gap = codes "gap"
+rule_word rule.Reference = codes "reference"
 
 -- the count of a sound stream, or the picture and the rule that it breaks
 abbrev pub verdict_line : Verdict → List ℕ
 verdict_line (Yes pictures) = codes "yes pictures " ++ decimal pictures ++ newline
-verdict_line (No number rule) = codes "no " ++ decimal number ++ codes " " ++ word_of rule ++ newline
+verdict_line (No number rule) = codes "no " ++ decimal number ++ codes " " ++ rule_word rule ++ newline
 
 -- the number that a verdict tells
 abbrev pub number_told : Verdict → ℕ

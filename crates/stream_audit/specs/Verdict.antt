@@ -12,16 +12,16 @@ use Rattle.stream_audit.specs.declared.verdict.Rule.{Rule}
 use Rattle.stream_audit.specs.declared.verdict.Rule.TheVariants as rule
 use Rattle.stream_audit.specs.declared.verdict.Verdict.{Verdict}
 use Rattle.stream_audit.specs.declared.verdict.Verdict.TheVariants.{Yes, No}
-use Rattle.stream_audit.specs.Stream.{LogEntry, Sent, Fed, StreamPicture, Item, pictures_in, last_picture, is_of, known_of, stream_of}
+use Rattle.stream_audit.specs.Stream.{LogEntry, Sent, Fed, StreamPicture, Item, pictures_in, last_picture, is_of_piece, known_of, stream_of}
 
 -- a rule that is broken at picture n
 abbrev pub broken_at : ℕ → Rule → Broken
 broken_at n r = record { number = n; rule = r }
 
 -- the one before, if there is one
-abbrev pub first_of : Option Broken → Option Broken → Option Broken
-first_of None later = later
-first_of (Some b) later = Some b
+abbrev pub first_broken_of : Option Broken → Option Broken → Option Broken
+first_broken_of None later = later
+first_broken_of (Some b) later = Some b
 
 -- picture m may be the reference of picture n: it is known, and in the window below n
 abbrev pub may_refer : Rules → List ℕ → (n m : ℕ) → Bool
@@ -33,12 +33,12 @@ module _ {Style Mb : Type 0} where
   has p k = list_any (λ part. has_mb part.piece.slice k) p.parts
 
   -- the picture has all its macroblocks
-  abbrev pub is_whole : Rules → StreamPicture Style Mb → Bool
-  is_whole rules p = all_below rules.mbs (has p)
+  abbrev pub is_picture_whole : Rules → StreamPicture Style Mb → Bool
+  is_picture_whole rules p = all_below rules.mbs (has p)
 
   -- the last picture, if there is one, has all its macroblocks
   abbrev pub last_is_whole : Rules → List (Item Style Mb) → Bool
-  last_is_whole rules items = option_map_or (is_whole rules) (last_picture items) true
+  last_is_whole rules items = option_map_or (is_picture_whole rules) (last_picture items) true
 
   -- the number of the last picture: 0 before the first
   abbrev pub present : List (Item Style Mb) → ℕ
@@ -47,8 +47,8 @@ module _ {Style Mb : Type 0} where
 module _ {Style Mb P Fault MessageFault : Type 0} (decoding : Decoding Style Mb P Fault)
     (read : List ℕ → Result Message MessageFault) (rules : Rules) where
   -- the next picture may have the reference that its header names, if it names one
-  abbrev pub has_reference : List (Item Style Mb) → Header Style → Bool
-  has_reference items header =
+  abbrev pub item_has_reference : List (Item Style Mb) → Header Style → Bool
+  item_has_reference items header =
       option_map_or (λ rest.
       option_map_or (may_refer rules (known_of read rules items) (pictures_in items))
       (nearest_below rules (pictures_in items) rest) false)
@@ -68,7 +68,7 @@ module _ {Style Mb P Fault MessageFault : Type 0} (decoding : Decoding Style Mb 
       if not (last_is_whole rules items) then Some (broken_at (present items) rule.Gap)
       else if not (piece.header.number == pictures_in items % period rules)
       then Some (broken_at (pictures_in items) rule.Number)
-      else if not (has_reference items piece.header)
+      else if not (item_has_reference items piece.header)
       then Some (broken_at (pictures_in items) rule.Reference)
       else None
 
@@ -77,7 +77,7 @@ module _ {Style Mb P Fault MessageFault : Type 0} (decoding : Decoding Style Mb 
   broken_by items (Err fault) = Some (broken_at (present items) rule.Packet)
   broken_by items (Ok piece) =
       if not (piece.header.half == rules.half) then Some (broken_at (present items) rule.Packet)
-      else if is_of (last_picture items) piece
+      else if is_of_piece (last_picture items) piece
       then option_map (broken_at (present items)) (broken_within (last_picture items) piece)
       else broken_next items piece
 
@@ -89,7 +89,7 @@ module _ {Style Mb P Fault MessageFault : Type 0} (decoding : Decoding Style Mb 
   -- the first rule that is broken in a log, the newest first
   abbrev pub first_broken : List LogEntry → Option Broken
   first_broken [] = None
-  first_broken (e ∷ past) = first_of (first_broken past) (broken_in (stream_of decoding past) e)
+  first_broken (e ∷ past) = first_broken_of (first_broken past) (broken_in (stream_of decoding past) e)
 
   -- at the end the last picture is to have all its macroblocks
   abbrev pub closing : List (Item Style Mb) → Verdict

@@ -24,16 +24,16 @@ abbrev pub of_two_slots : Rules
 of_two_slots = small_rules 2 0 2
 
 -- the verdict on a log, the newest first
-abbrev pub judged : Rules → List LogEntry → Verdict
-judged rules log = verdict_of small_decoding small_read_message rules log
+abbrev pub worked_verdict : Rules → List LogEntry → Verdict
+worked_verdict rules log = verdict_of small_decoding small_read_message rules log
 
 -- an intra picture in one packet; the left and the right half of one, by the place; and a picture
 -- that refers to the one with this temporal reference
-abbrev pub intra : Rules → ℕ → LogEntry
-intra rules number = Sent (number ∷ 0 ∷ rules.half ∷ 0 ∷ 8 ∷ 0 ∷ 5 ∷ 5 ∷ [])
+abbrev pub intra_entry : Rules → ℕ → LogEntry
+intra_entry rules number = Sent (number ∷ 0 ∷ rules.half ∷ 0 ∷ 8 ∷ 0 ∷ 5 ∷ 5 ∷ [])
 
-abbrev pub half_of : Rules → ℕ → ℕ → LogEntry
-half_of rules number place = Sent (number ∷ 0 ∷ rules.half ∷ 0 ∷ 8 ∷ place ∷ 5 ∷ [])
+abbrev pub half_entry : Rules → ℕ → ℕ → LogEntry
+half_entry rules number place = Sent (number ∷ 0 ∷ rules.half ∷ 0 ∷ 8 ∷ place ∷ 5 ∷ [])
 
 abbrev pub predicted : Rules → ℕ → ℕ → LogEntry
 predicted rules number reference = Sent (number ∷ (reference + 1) ∷ rules.half ∷ 1 ∷ 8 ∷ 0 ∷ 5 ∷ 5 ∷ [])
@@ -41,8 +41,8 @@ predicted rules number reference = Sent (number ∷ (reference + 1) ∷ rules.ha
 abbrev pub ack : ℕ → LogEntry
 ack number = Fed (0 ∷ number ∷ [])
 
-abbrev pub nack : ℕ → ℕ → LogEntry
-nack number offered = Fed (1 ∷ number ∷ offered ∷ [])
+abbrev pub nack_entry : ℕ → ℕ → LogEntry
+nack_entry number offered = Fed (1 ∷ number ∷ offered ∷ [])
 
 -- bytes that are no message
 abbrev pub bytes_of_no_message : LogEntry
@@ -51,7 +51,7 @@ bytes_of_no_message = Fed (7 ∷ [])
 -- a call of two pictures: the first is sent, delivered and acknowledged, after bytes that are no message,
 -- and the second refers to it
 abbrev two_pictures : List (Item SmallStyle SmallMb)
-two_pictures = stream_of small_decoding (predicted wide 1 0 ∷ ack 0 ∷ bytes_of_no_message ∷ intra wide 0 ∷ [])
+two_pictures = stream_of small_decoding (predicted wide 1 0 ∷ ack 0 ∷ bytes_of_no_message ∷ intra_entry wide 0 ∷ [])
 
 abbrev its_events : List StreamEvent
 its_events =

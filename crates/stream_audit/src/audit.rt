@@ -22,26 +22,26 @@ impl Model for Audit {
     ghost use Rattle.std.specs.Prelude.{◌≡◌, length};
     ghost use Rattle.h263_types.specs.Sizes.{mbs_of};
     ghost use Rattle.stream_audit.specs.declared.kept.Kept.{Kept};
-    ghost use Rattle.stream_audit.specs.State.{Fits};
+    ghost use Rattle.stream_audit.specs.State.{AuditFits};
 
     ghost Value = { Kept };
 
     ghost view = { λ a. a.kept };
 
-    ghost invariant = { λ a. Fits a.kept × (length a.mbs.items ≡ mbs_of a.kept.params.format) };
+    ghost invariant = { λ a. AuditFits a.kept × (length a.mbs.items ≡ mbs_of a.kept.params.format) };
 }
 
 impl Audit {
     ghost use Rattle.stream_audit.specs.Logs.{first_broken_on, stream_on, verdict_on};
     ghost use Rattle.stream_audit.specs.Stream.{LogEntry, Sent, Fed, pictures_in};
-    ghost use Rattle.stream_audit.specs.State.{Stands};
+    ghost use Rattle.stream_audit.specs.State.{StandsForLog};
 
     /// Nothing was sent. All memory of the audit is taken here.
     pub fn start(alloc: Global, params: &Params) -> Result<Audit, OutOfMemory>
         requires { IsParams params.now }
         ensures params { IfOk result (λ a. a.params ≡ params.now) }
         ensures pictures { IfOk result (λ a. a.pictures ≡ 0) }
-        ensures stands { IfOk result (λ a. Stands a []) }
+        ensures stands { IfOk result (λ a. StandsForLog a []) }
     {
         let mbs = vec![in alloc; Mb::Skip; params.format.mbs() as usize]?;
         let kept = Kept::start(alloc, params)?;
@@ -54,8 +54,8 @@ impl Audit {
         requires { self.old.pictures < 2 ^ 24 }
         ensures params { self.new.params ≡ self.old.params }
         ensures pictures { self.new.pictures ≤ self.old.pictures + 1 }
-        ensures stands { (past : List LogEntry) → Stands self.old past
-            → Stands self.new (Sent bytes.now ∷ past) }
+        ensures stands { (past : List LogEntry) → StandsForLog self.old past
+            → StandsForLog self.new (Sent bytes.now ∷ past) }
         // A packet that breaks a rule begins no picture,
         ensures broken { IsSome self.new.broken → self.new.pictures ≡ self.old.pictures }
         // and one after that changes nothing at all.
@@ -77,8 +77,8 @@ impl Audit {
     pub fn feedback(&mut self, bytes: &[u8])
         ensures params { self.new.params ≡ self.old.params }
         ensures pictures { self.new.pictures ≡ self.old.pictures }
-        ensures stands { (past : List LogEntry) → Stands self.old past
-            → Stands self.new (Fed bytes.now ∷ past) }
+        ensures stands { (past : List LogEntry) → StandsForLog self.old past
+            → StandsForLog self.new (Fed bytes.now ∷ past) }
         ensures later { IsSome self.old.broken → self.new ≡ self.old }
     {
         match self.kept.broken {
@@ -90,7 +90,7 @@ impl Audit {
     /// How many pictures were begun, up to the first broken rule.
     pub fn pictures(&self) -> u32
         ensures count { result ≡ self.now.pictures }
-        ensures stream { (past : List LogEntry) → Stands self.now past
+        ensures stream { (past : List LogEntry) → StandsForLog self.now past
             → first_broken_on self.now.params past ≡ None
             → result ≡ pictures_in (stream_on self.now.params past) }
     {
@@ -99,7 +99,7 @@ impl Audit {
 
     /// The verdict, were the log at its end.
     pub fn verdict(&self) -> Verdict
-        ensures { (past : List LogEntry) → Stands self.now past
+        ensures { (past : List LogEntry) → StandsForLog self.now past
             → result ≡ verdict_on self.now.params past }
     {
         match self.kept.broken {
@@ -119,7 +119,7 @@ impl Audit {
 
     /// The verdict on the log.
     pub fn close(self) -> Verdict
-        ensures { (past : List LogEntry) → Stands self past
+        ensures { (past : List LogEntry) → StandsForLog self past
             → result ≡ verdict_on self.params past }
     {
         self.verdict()

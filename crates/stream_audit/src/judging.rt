@@ -5,7 +5,7 @@ ghost use Rattle.h263_types.specs.Blocks.{IsHeadOf};
 ghost use Rattle.h263_types.specs.declared.blocks.Mb.{Mb};
 ghost use Rattle.call_model.specs.Coding as call;
 ghost use Rattle.call_decoding.specs.Rules.{rules_of};
-ghost use Rattle.call_decoding.specs.Styles.{Style, header_of};
+ghost use Rattle.call_decoding.specs.Styles.{Style, call_header_of};
 ghost use Rattle.call_encoding.specs.Messages.{read_message};
 ghost use Rattle.receiver_end.specs.Decoding.{decoding};
 
@@ -38,10 +38,10 @@ fn is_last(tr: Option<u16>, number: u16) -> bool
 impl Kept {
     ghost use Rattle.packet_collector.specs.Collected.{IsFreshIn};
     ghost use Rattle.stream_audit.specs.Logs.{Stream};
-    ghost use Rattle.stream_audit.specs.State.{Fits, Keeps, Spells};
+    ghost use Rattle.stream_audit.specs.State.{AuditFits, AuditKeeps, SpellsSlice};
     ghost use Rattle.stream_audit.specs.Stream.{StreamPicture, last_picture};
     ghost use Rattle.stream_audit.specs.Stream as stream;
-    ghost use Rattle.stream_audit.specs.Verdict.{broken_within, broken_next, has_reference};
+    ghost use Rattle.stream_audit.specs.Verdict.{broken_within, broken_next, item_has_reference};
     ghost use Rattle.stream_audit.specs.Verdict.{last_is_whole};
 
     /// Whether a packet is of the picture clock.
@@ -53,20 +53,20 @@ impl Kept {
 
     /// Whether a packet is of the last picture. There is one then.
     pub fn is_of_last(&self, piece: &Piece) -> bool
-        requires { Fits self.now }
+        requires { AuditFits self.now }
         ensures some { result ≡ true → 0 < self.now.pictures }
-        ensures value { (items : Stream) (q : call.Piece Style Mb) → Keeps self.now items
-            → Spells piece.now q → result ≡ stream.is_of (last_picture items) q }
+        ensures value { (items : Stream) (q : call.Piece Style Mb) → AuditKeeps self.now items
+            → SpellsSlice piece.now q → result ≡ stream.is_of_piece (last_picture items) q }
     {
         is_last(self.tr, piece.header.tr)
     }
 
     /// The rule that a packet of the last picture breaks. One that breaks none may be added.
     pub fn broken_within(&self, piece: &Piece) -> Option<Rule>
-        requires fits { Fits self.now }
+        requires fits { AuditFits self.now }
         requires head { IsHeadOf self.now.params.format piece.now.head }
         ensures rule { (items : Stream) (p : StreamPicture Style Mb) (q : call.Piece Style Mb)
-            → Keeps self.now items → last_picture items ≡ Some p → Spells piece.now q
+            → AuditKeeps self.now items → last_picture items ≡ Some p → SpellsSlice piece.now q
             → result ≡ broken_within (decoding self.now.params.format)
             (read_message self.now.params.clock) (rules_of self.now.params) (Some p) q }
         ensures fresh { result ≡ None
@@ -86,8 +86,8 @@ impl Kept {
 
     /// Whether the last picture, if there is one, has all its macroblocks.
     pub fn is_whole(&self) -> bool
-        requires { Fits self.now }
-        ensures { (items : Stream) → Keeps self.now items
+        requires { AuditFits self.now }
+        ensures { (items : Stream) → AuditKeeps self.now items
             → result ≡ last_is_whole (rules_of self.now.params) items }
     {
         match self.tr {
@@ -98,9 +98,9 @@ impl Kept {
 
     /// The rule that the first packet of the next picture breaks, and where.
     pub fn broken_next(&self, piece: &Piece) -> Option<Broken>
-        requires { Fits self.now }
-        ensures { (items : Stream) (q : call.Piece Style Mb) → Keeps self.now items
-            → Spells piece.now q → result ≡ broken_next (decoding self.now.params.format)
+        requires { AuditFits self.now }
+        ensures { (items : Stream) (q : call.Piece Style Mb) → AuditKeeps self.now items
+            → SpellsSlice piece.now q → result ≡ broken_next (decoding self.now.params.format)
             (read_message self.now.params.clock) (rules_of self.now.params) items q }
     {
         if !self.is_whole() {
@@ -128,10 +128,10 @@ impl Kept {
 
     // Whether the next picture may have the reference that its header names, if it names one.
     fn has_reference(&self, header: &Header) -> bool
-        requires { Fits self.now }
-        ensures { (items : Stream) → Keeps self.now items → result
-            ≡ has_reference (decoding self.now.params.format) (read_message self.now.params.clock)
-            (rules_of self.now.params) items (header_of header.now) }
+        requires { AuditFits self.now }
+        ensures { (items : Stream) → AuditKeeps self.now items → result
+            ≡ item_has_reference (decoding self.now.params.format) (read_message self.now.params.clock)
+            (rules_of self.now.params) items (call_header_of header.now) }
     {
         let Some(rest) = header.trp else {
             return true;

@@ -24,16 +24,16 @@ pub struct Kept {
 }
 
 impl Kept {
-    ghost use Rattle.stream_audit.specs.State.{Fits, Stands};
+    ghost use Rattle.stream_audit.specs.State.{AuditFits, StandsForLog};
     ghost use Rattle.stream_audit.specs.Verdict.{broken_at};
 
     /// Nothing was sent. All memory is taken here.
     pub fn start(alloc: Global, params: &Params) -> Result<Kept, OutOfMemory>
         requires { IsParams params.now }
-        ensures fits { IfOk result Fits }
+        ensures fits { IfOk result AuditFits }
         ensures params { IfOk result (λ k. k.params ≡ params.now) }
         ensures pictures { IfOk result (λ k. k.pictures ≡ 0) }
-        ensures stands { IfOk result (λ k. Stands k []) }
+        ensures stands { IfOk result (λ k. StandsForLog k []) }
     {
         let one = Params { lead: 0, ..*params };
         let collector = Collector::start(alloc, &one)?;

@@ -1,6 +1,7 @@
 //! The line of a verdict.
 ghost use Rattle.std.specs.Prelude.{◌≡◌, ◌≤◌, ◌+◌, ◌++◌, [], length, decimal};
-ghost use Rattle.stream_audit.specs.Text.{newline, text_of, verdict_line, word_of};
+ghost use Rattle.h263_types.specs.Texts.{newline};
+ghost use Rattle.stream_audit.specs.Text.{audit_text, verdict_line, rule_word};
 
 use crate::verdict::{Rule, Verdict};
 use arrayvec::ArrayString;
@@ -17,7 +18,7 @@ pub struct Text {
 
 impl Text {
     fn empty() -> Text
-        ensures { text_of result ≡ [] }
+        ensures { audit_text result ≡ [] }
     {
         Text {
             line: ArrayString::new(),
@@ -26,40 +27,40 @@ impl Text {
 
     /// Its bytes, with the newline.
     pub fn text(&self) -> &[u8]
-        ensures value { result.now ≡ text_of self.now }
+        ensures value { result.now ≡ audit_text self.now }
         ensures fits { length result.now ≤ 32 }
     {
         self.line.as_str().as_bytes()
     }
 
     fn put(&mut self, text: &str)
-        requires { length (text_of self.old) + length text.now ≤ 32 }
-        ensures value { text_of self.new ≡ text_of self.old ++ text.now }
-        ensures len { length (text_of self.new) ≡ length (text_of self.old) + length text.now }
+        requires { length (audit_text self.old) + length text.now ≤ 32 }
+        ensures value { audit_text self.new ≡ audit_text self.old ++ text.now }
+        ensures len { length (audit_text self.new) ≡ length (audit_text self.old) + length text.now }
     {
         self.line.push_str(text);
     }
 
     // A number of 10 digits at most.
     fn put_number(&mut self, number: u32)
-        requires { length (text_of self.old) + 10 ≤ 32 }
-        ensures value { text_of self.new ≡ text_of self.old ++ decimal number }
-        ensures len { length (text_of self.new) ≤ length (text_of self.old) + 10 }
+        requires { length (audit_text self.old) + 10 ≤ 32 }
+        ensures value { audit_text self.new ≡ audit_text self.old ++ decimal number }
+        ensures len { length (audit_text self.new) ≤ length (audit_text self.old) + 10 }
     {
         let mut buffer = Buffer::new();
         self.put(buffer.format(number));
     }
 
     fn end(&mut self)
-        requires { length (text_of self.old) + 1 ≤ 32 }
-        ensures { text_of self.new ≡ text_of self.old ++ newline }
+        requires { length (audit_text self.old) + 1 ≤ 32 }
+        ensures { audit_text self.new ≡ audit_text self.old ++ newline }
     {
         self.put("\n");
     }
 }
 
 fn word(rule: Rule) -> &'static str
-    ensures value { result.now ≡ word_of rule }
+    ensures value { result.now ≡ rule_word rule }
     ensures len { length result.now ≤ 9 }
 {
     match rule {
@@ -74,7 +75,7 @@ fn word(rule: Rule) -> &'static str
 
 /// The line of a verdict: `yes pictures 2`, or `no 1 reference`.
 pub fn verdict_text(verdict: &Verdict) -> Text
-    ensures { text_of result ≡ verdict_line verdict.now }
+    ensures { audit_text result ≡ verdict_line verdict.now }
 {
     let mut text = Text::empty();
     match *verdict {

@@ -8,8 +8,8 @@ use Rattle.stream_choice.specs.declared.trial.Trial.{Trial}
 use Rattle.stream_choice.specs.declared.streams.Streams.{Streams}
 use Rattle.stream_choice.specs.declared.streams.Run.TheVariants as runs
 use Rattle.stream_choice.specs.declared.streams.Taker.TheVariants as takers
-use Rattle.stream_choice.specs.Choice.{after_packet, counted, is_live_one, is_of, is_over, is_tried, kept, may_begin, overtakes, taker_of, tried_after, with_former, with_tried}
-use Rattle.stream_choice.specs.Laws.{Event, Came, Complete, StaysLive, after, after_all, alone, is_own}
+use Rattle.stream_choice.specs.Choice.{streams_after_packet, stream_counted, is_live_one, is_of, is_over, is_tried, kept, may_begin, overtakes, taker_of, tried_after, with_former, with_tried}
+use Rattle.stream_choice.specs.Laws.{ChoiceEvent, Came, Complete, StreamStaysLive, streams_after, streams_after_all, alone, is_own_event}
 
 -- ---- not shut out
 
@@ -65,9 +65,9 @@ Keeps f n st = (st.followed ≡ Some f) × Fewer st.former n
 
 overtaken : (f g : Stream) (o : Option Stream) (now : ℕ) → o ≡ Some f → now - f.last < 500000000
     → g.pictures + 1 ≤ f.pictures
-    → overtakes o (counted now g) now ≡ false
+    → overtakes o (stream_counted now g) now ≡ false
 overtaken f g o now e live h =
-    ap (λ (x : Option Stream). overtakes x (counted now g) now) e
+    ap (λ (x : Option Stream). overtakes x (stream_counted now g) now) e
     ∙ ap (λ (b : Bool). cond b (ltb f.pictures (min (g.pictures + 1) 4294967295)) true)
     (lt-ltb (now - f.last) 500000000 live)
     ∙ le-ltb f.pictures (min (g.pictures + 1) 4294967295) (omega arith)
@@ -78,8 +78,12 @@ former_stays : (st : Streams) (f : Stream) (n now : ℕ) (o : Option Stream) →
 former_stays st f n now None e h i live more = (e, weaker st.former n h)
 former_stays st f n now (Some g) e h i live more =
     subst (λ (x : Streams). Keeps f (n + 1) x)
-    (sym (ap (λ (b : Bool). cond b (record { followed = Some (counted now g); former = st.followed; tried = st.tried })
-    (let y : Streams = record { followed = st.followed; former = Some (counted now g); tried = st.tried } in y))
+    (sym (ap (λ (b : Bool). cond b (record {
+      followed = Some (stream_counted now g);
+      former = st.followed;
+      tried = st.tried;
+    })
+    (let y : Streams = record { followed = st.followed; former = Some (stream_counted now g); tried = st.tried } in y))
     (overtaken f g st.followed now e live (omega arith))))
     (e, smaller g.pictures n i)
   where
@@ -114,7 +118,8 @@ record Agree (s a : Streams) (source : ℕ) : Type 0 where
   same : a.followed ≡ Some followed
   source_is : followed.source ≡ source
 
-came_alone : (f : Stream) (other now : ℕ) → eqb other f.source ≡ true → after_packet (alone f) other now ≡ alone f
+came_alone : (f : Stream) (other now : ℕ) → eqb other f.source ≡ true → streams_after_packet (alone f) other now
+    ≡ alone f
 came_alone f other now e =
     ap (λ (b : Bool).
     let y : Streams = record {
@@ -126,23 +131,25 @@ came_alone f other now e =
     } in y)
     (eq-eqb f.source other (sym (eqb-true other f.source e)))
 
-alone_still : (b : Bool) (f : Stream) (e : Event) (es : List Event) → (b ≡ true → after (alone f) e ≡ alone f)
-    → after_all (alone f) (cond b (e ∷ es) es) ≡ after_all (alone f) es
-alone_still true f e es h = ap (λ (s : Streams). after_all s es) (h refl)
+alone_still : (b : Bool) (f : Stream) (e : ChoiceEvent) (es : List ChoiceEvent)
+    → (b ≡ true → streams_after (alone f) e ≡ alone f)
+    → streams_after_all (alone f) (cond b (e ∷ es) es) ≡ streams_after_all (alone f) es
+alone_still true f e es h = ap (λ (s : Streams). streams_after_all s es) (h refl)
 alone_still false f e es h = refl
 
-agree : (es : List Event) (st : Streams) (f : Stream) (n : ℕ) → st.followed ≡ Some f → Fewer st.former n
-    → StaysLive n f es
-    → Agree (after_all st es) (after_all (alone f) (filter (is_own f.source) es)) f.source
+agree : (es : List ChoiceEvent) (st : Streams) (f : Stream) (n : ℕ) → st.followed ≡ Some f → Fewer st.former n
+    → StreamStaysLive n f es
+    → Agree (streams_after_all st es) (streams_after_all (alone f) (filter (is_own_event f.source) es)) f.source
 agree [] st f n e h s = record { followed = f; is = e; same = refl; source_is = refl }
 agree (Came other now ∷ es) st f n e h s =
-    subst (λ (a : Streams). Agree (after_all (after_packet st other now) es) a f.source)
-    (sym (alone_still (eqb other f.source) f (Came other now) (filter (is_own f.source) es) (came_alone f other now)))
-    (agree es (after_packet st other now) f n e h s.1)
+    subst (λ (a : Streams). Agree (streams_after_all (streams_after_packet st other now) es) a f.source)
+    (sym (alone_still (eqb other f.source) f (Came other now) (filter (is_own_event f.source) es)
+    (came_alone f other now)))
+    (agree es (streams_after_packet st other now) f n e h s.1)
 agree (Complete runs.Followed now ∷ es) st f n e h s =
-    agree es (record { followed = option_map (counted now) st.followed; former = st.former; tried = st.tried })
-    (counted now f) n
-    (ap (option_map (counted now)) e) h s.1
+    agree es (record { followed = option_map (stream_counted now) st.followed; former = st.former; tried = st.tried })
+    (stream_counted now f) n
+    (ap (option_map (stream_counted now)) e) h s.1
 agree (Complete runs.Former now ∷ es) st f n e h s =
     let k = former_stays st f n now st.former e h h s.0 s.1 in
     agree es (with_former st st.former now) f (n + 1) k.0 k.1 s.2
@@ -159,10 +166,10 @@ taken st f source now e h =
     (cond (may_begin st.tried source now) takers.Begins takers.NoRun)))))
     (ap (λ (o : Option Stream). is_of o source) e ∙ eq-eqb f.source source h)
 
-pub undisturbed : (st : Streams) (f : Stream) (n : ℕ) (es : List Event) → st.followed ≡ Some f
-    → MatchOption st.former (Unit {0}) (λ g. g.pictures ≤ n) → StaysLive n f es
-    → ((after_all st es).followed ≡ (after_all (alone f) (filter (is_own f.source) es)).followed)
-    × ((now : ℕ) → taker_of (after_all st es) f.source now ≡ takers.Followed)
+pub undisturbed : (st : Streams) (f : Stream) (n : ℕ) (es : List ChoiceEvent) → st.followed ≡ Some f
+    → MatchOption st.former (Unit {0}) (λ g. g.pictures ≤ n) → StreamStaysLive n f es
+    → ((streams_after_all st es).followed ≡ (streams_after_all (alone f) (filter (is_own_event f.source) es)).followed)
+    × ((now : ℕ) → taker_of (streams_after_all st es) f.source now ≡ takers.Followed)
 undisturbed st f n es e h s =
     let a = agree es st f n e h s in
-    (a.is ∙ sym a.same, λ now. taken (after_all st es) a.followed f.source now a.is a.source_is)
+    (a.is ∙ sym a.same, λ now. taken (streams_after_all st es) a.followed f.source now a.is a.source_is)

@@ -26,8 +26,8 @@ is_of None source = false
 is_of (Some s) source = s.source == source
 
 -- with one more picture, up to 2^32 - 1
-abbrev pub counted : ℕ → Stream → Stream
-counted now s = record { source = s.source; pictures = min (s.pictures + 1) 4294967295; last = now }
+abbrev pub stream_counted : ℕ → Stream → Stream
+stream_counted now s = record { source = s.source; pictures = min (s.pictures + 1) 4294967295; last = now }
 
 -- It has ended: its last picture counts as one of half a second ago, unless it is older.
 abbrev pub ended_at : ℕ → Stream → Stream
@@ -83,8 +83,8 @@ tried_after takers.Tried tried source now = touched tried now
 tried_after takers.Begins tried source now = Some (record { source = source; began = now; last = now })
 tried_after takers.NoRun tried source now = tried
 
-abbrev pub after_packet : Streams → ℕ → ℕ → Streams
-after_packet st source now =
+abbrev pub streams_after_packet : Streams → ℕ → ℕ → Streams
+streams_after_packet st source now =
     record {
       followed = st.followed;
       former = st.former;
@@ -115,9 +115,9 @@ kept (Some g) (Some f) = if nat_lt g.pictures f.pictures then Some f else Some g
 abbrev pub with_former : Streams → Option Stream → ℕ → Streams
 with_former st None now = st
 with_former st (Some g) now =
-    if overtakes st.followed (counted now g) now
-    then record { followed = Some (counted now g); former = st.followed; tried = st.tried }
-    else record { followed = st.followed; former = Some (counted now g); tried = st.tried }
+    if overtakes st.followed (stream_counted now g) now
+    then record { followed = Some (stream_counted now g); former = st.followed; tried = st.tried }
+    else record { followed = st.followed; former = Some (stream_counted now g); tried = st.tried }
 
 -- What is left where a picture of the stream that is tried is complete. It is followed, unless the
 -- one that was followed is live again.
@@ -134,28 +134,28 @@ with_tried st (Some t) now =
 
 abbrev pub after_complete : Streams → Run → ℕ → Streams
 after_complete st runs.Followed now =
-    record { followed = option_map (counted now) st.followed; former = st.former; tried = st.tried }
+    record { followed = option_map (stream_counted now) st.followed; former = st.former; tried = st.tried }
 after_complete st runs.Former now = with_former st st.former now
 after_complete st runs.Tried now = with_tried st st.tried now
 
 -- ---- runs
 
 -- the one that was followed keeps its run, and the former one doesn't
-abbrev pub is_kept : Option Stream → Option Stream → Bool
-is_kept former None = false
-is_kept None (Some f) = true
-is_kept (Some g) (Some f) = nat_lt g.pictures f.pictures
+abbrev pub keeps_run : Option Stream → Option Stream → Bool
+keeps_run former None = false
+keeps_run None (Some f) = true
+keeps_run (Some g) (Some f) = nat_lt g.pictures f.pictures
 
 abbrev pub former_turn : Streams → Option Stream → ℕ → Turn
 former_turn st None now = turns.Stays
 former_turn st (Some g) now =
-    if overtakes st.followed (counted now g) now then turns.ToFormer else turns.Stays
+    if overtakes st.followed (stream_counted now g) now then turns.ToFormer else turns.Stays
 
 abbrev pub tried_turn : Streams → Option Trial → ℕ → Turn
 tried_turn st None now = turns.Stays
 tried_turn st (Some t) now =
     if is_live_one st.followed now then turns.Stays
-    else if is_kept st.former st.followed then turns.ToTried
+    else if keeps_run st.former st.followed then turns.ToTried
     else turns.ToTriedBeside
 
 -- What becomes of the runs where a picture is complete: each goes with its stream.
@@ -165,7 +165,7 @@ turn_of st runs.Former now = former_turn st st.former now
 turn_of st runs.Tried now = tried_turn st st.tried now
 
 -- the SSRC of the stream of a run, if it has one
-abbrev pub source_in : Streams → Run → Option ℕ
-source_in st runs.Followed = option_map (λ s. s.source) st.followed
-source_in st runs.Former = option_map (λ s. s.source) st.former
-source_in st runs.Tried = option_map (λ t. t.source) st.tried
+abbrev pub run_source : Streams → Run → Option ℕ
+run_source st runs.Followed = option_map (λ s. s.source) st.followed
+run_source st runs.Former = option_map (λ s. s.source) st.former
+run_source st runs.Tried = option_map (λ t. t.source) st.tried

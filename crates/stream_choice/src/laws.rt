@@ -1,5 +1,5 @@
 //! Laws of streams and budgets, over the definitions alone.
-ghost use Rattle.stream_choice.specs.Laws.{EndsLife, NeverMore, NeverShutOut, Undisturbed};
+ghost use Rattle.stream_choice.specs.Laws.{EndsLife, NeverMore, StreamsNeverShutOut, StreamUndisturbed};
 
 /// In no second more packets are granted than a budget has.
 pub fn never_more()
@@ -8,7 +8,7 @@ pub fn never_more()
 
 /// What others send changes nothing of a stream of which a picture is complete every half second.
 pub fn undisturbed()
-    ensures { Undisturbed }
+    ensures { StreamUndisturbed }
 {}
 
 /// A stream that is followed is live no longer once it has ended; an end of another one changes
@@ -20,5 +20,5 @@ pub fn ends_life()
 /// No stream is shut out for good: where none that is followed is live, its packets are taken a
 /// second and a half after the last trial began, or sooner.
 pub fn never_shut_out()
-    ensures { NeverShutOut }
+    ensures { StreamsNeverShutOut }
 {}

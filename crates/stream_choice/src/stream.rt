@@ -1,7 +1,7 @@
 //! A stream that is, or was, followed.
 ghost use Rattle.std.specs.Prelude.{◌≡◌};
 ghost use Rattle.std.specs.Option.{option_map};
-ghost use Rattle.stream_choice.specs.Choice.{counted, ended_at, ended_if, is_kept, is_live, is_live_one, is_of, kept, overtakes};
+ghost use Rattle.stream_choice.specs.Choice.{stream_counted, ended_at, ended_if, keeps_run, is_live, is_live_one, is_of, kept, overtakes};
 
 // A stream is live for half a second after each complete picture.
 const LIVE: u64 = 500_000_000;
@@ -18,7 +18,7 @@ pub struct Stream {
 impl Stream {
     /// The same with one more picture.
     pub fn counted(&self, now: u64) -> Stream
-        ensures { result ≡ counted now self.now }
+        ensures { result ≡ stream_counted now self.now }
     {
         Stream {
             source: self.source,
@@ -120,7 +120,7 @@ pub fn kept(former: Option<Stream>, followed: Option<Stream>) -> Option<Stream>
 
 /// Whether the one that was followed keeps its run, and the former one doesn't.
 pub fn is_kept(former: Option<Stream>, followed: Option<Stream>) -> bool
-    ensures { result ≡ is_kept former followed }
+    ensures { result ≡ keeps_run former followed }
 {
     match followed {
         None => false,

@@ -1,7 +1,7 @@
 //! Which stream is followed.
 ghost use Rattle.std.specs.Prelude.{◌≡◌, None};
 ghost use Rattle.std.specs.Option.{option_map};
-ghost use Rattle.stream_choice.specs.Choice.{after_complete, after_end, after_packet, is_live_one, source_in};
+ghost use Rattle.stream_choice.specs.Choice.{after_complete, after_end, streams_after_packet, is_live_one, run_source};
 ghost use Rattle.stream_choice.specs.Choice.{former_turn, taker_of, tried_after, tried_turn, turn_of};
 ghost use Rattle.stream_choice.specs.Choice.{with_former, with_tried};
 
@@ -69,7 +69,7 @@ impl Streams {
     /// A packet of this stream came: which run takes it.
     pub fn packet(&mut self, source: u32, now: u64) -> Taker
         ensures taker { result ≡ taker_of self.old source now }
-        ensures after { self.new ≡ after_packet self.old source now }
+        ensures after { self.new ≡ streams_after_packet self.old source now }
     {
         let taker = self.taker(source, now);
         self.tried = tried_after(taker, self.tried, source, now);
@@ -229,7 +229,7 @@ impl Streams {
 
     /// The SSRC of the stream of this run, if it has one.
     pub fn source(&self, run: Run) -> Option<u32>
-        ensures { result ≡ source_in self.now run }
+        ensures { result ≡ run_source self.now run }
     {
         match run {
             Run::Followed => stream::source_of(self.followed),

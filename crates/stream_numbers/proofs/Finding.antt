@@ -7,9 +7,9 @@ use Rattle.stream_numbers.specs.declared.packet.Packet.{Packet}
 use Rattle.stream_numbers.specs.declared.packet.Place.{Place}
 use Rattle.stream_numbers.specs.declared.rate.Rate.{Rate}
 use Rattle.stream_numbers.specs.declared.stepping.Step.{Step}
-use Rattle.stream_numbers.specs.Counting.{allowed_in, nearest, time_of}
-use Rattle.stream_numbers.specs.Placing.{advanced, guess_of, moved, newer, place_at, sequence_after, step_of, with_moved, with_number, with_stamp}
-use Rattle.stream_numbers.specs.Laws.{IsAllowed, IsNear, IsPeriod, Says}
+use Rattle.stream_numbers.specs.Counting.{allowed_in, nearest_to_base, time_of}
+use Rattle.stream_numbers.specs.Placing.{advanced, guess_of, newest_moved, newer, stream_place, sequence_after, step_of, with_moved, with_number, with_stamp}
+use Rattle.stream_numbers.specs.Laws.{IsAllowedByClock, IsNearNewest, IsPeriod, Says}
 
 back : (top over n : ℕ) → n ≤ top → over ≡ top - n → cond (ltb top over) None (Some (top - over)) ≡ Some n
 back top over n h e =
@@ -30,25 +30,26 @@ over_stamp : (base n : ℕ) → base ≤ n + 2147483648 → n < base + 214748364
     → (base + 2147483648 - 1 + 4294967296 - n % 4294967296) % 4294967296 ≡ base + 2147483648 - 1 - n
 over_stamp base n h i = omega arith
 
-pub near_256 : (base n : ℕ) → base ≤ n + 128 → n < base + 128 → nearest base (n % 256) 256 ≡ Some n
+pub near_256 : (base n : ℕ) → base ≤ n + 128 → n < base + 128 → nearest_to_base base (n % 256) 256 ≡ Some n
 near_256 base n h i =
     back (base + 128 - 1) ((base + 128 - 1 + 256 - n % 256) % 256) n (omega arith) (over_256 base n h i)
 
-pub near_1024 : (base n : ℕ) → base ≤ n + 512 → n < base + 512 → nearest base (n % 1024) 1024 ≡ Some n
+pub near_1024 : (base n : ℕ) → base ≤ n + 512 → n < base + 512 → nearest_to_base base (n % 1024) 1024 ≡ Some n
 near_1024 base n h i =
     back (base + 512 - 1) ((base + 512 - 1 + 1024 - n % 1024) % 1024) n (omega arith) (over_1024 base n h i)
 
 pub near_stamp : (base n : ℕ) → base ≤ n + 2147483648 → n < base + 2147483648
-    → nearest base (n % 4294967296) 4294967296 ≡ Some n
+    → nearest_to_base base (n % 4294967296) 4294967296 ≡ Some n
 near_stamp base n h i =
     back (base + 2147483648 - 1) ((base + 2147483648 - 1 + 4294967296 - n % 4294967296) % 4294967296) n (omega arith)
     (over_stamp base n h i)
 
 abbrev FoundIn : ℕ → ℕ → ℕ → Type 0
-FoundIn base n period = base ≤ n + period / 2 → n < base + period / 2 → nearest base (n % period) period ≡ Some n
+FoundIn base n period = base ≤ n + period / 2 → n < base + period / 2 → nearest_to_base base (n % period) period
+    ≡ Some n
 
 pub nearest_found : (base n period : ℕ) → IsPeriod period → base ≤ n + period / 2 → n < base + period / 2
-    → nearest base (n % period) period ≡ Some n
+    → nearest_to_base base (n % period) period ≡ Some n
 nearest_found base n period p =
     ⊎_elim
     (λ (e : period ≡ 256). subst (λ (k : ℕ). FoundIn base n k) (sym e) (λ h i. near_256 base n h i))
@@ -63,8 +64,9 @@ nearest_found base n period p =
 abbrev place_in : Option Step → Option Place
 place_in o = option_map (λ s. s.place) o
 
-placed : (r : Rate) (x : Newest) (p : Packet) (number stamp now : ℕ) → number < 1048576 → IsAllowed r x number now
-    → place_in (with_moved (moved r x p number stamp now) number stamp) ≡ Some (place_at number stamp)
+placed : (r : Rate) (x : Newest) (p : Packet) (number stamp now : ℕ) → number < 1048576
+    → IsAllowedByClock r x number now
+    → place_in (with_moved (newest_moved r x p number stamp now) number stamp) ≡ Some (stream_place number stamp)
 placed r x p number stamp now few allowed =
     ap (λ (b : Bool). place_in (with_moved (cond b None (cond (ltb x.number number) (advanced r x p number stamp now)
     (Some (record x { sequence = sequence_after x p })))) number stamp)) (lt-leb 1048576 number few)
@@ -81,7 +83,7 @@ placed r x p number stamp now few allowed =
     (cases_lt x.number number)
 
 by_period : (r : Rate) (base number : ℕ) → (r.period ≡ 256) ⊎ (r.period ≡ 1024) → base ≤ number + r.period / 2
-    → number < base + r.period / 2 → nearest base (number % r.period) r.period ≡ Some number
+    → number < base + r.period / 2 → nearest_to_base base (number % r.period) r.period ≡ Some number
 by_period r base number f =
     ⊎_elim
     (λ (e : r.period ≡ 256). subst (λ (k : ℕ). FoundIn base number k) (sym e) (λ h i. near_256 base number h i))
@@ -89,15 +91,16 @@ by_period r base number f =
     f
 
 pub found : (r : Rate) (x : Newest) (p : Packet) (number stamp now : ℕ) → (r.period ≡ 256) ⊎ (r.period ≡ 1024)
-    → Says r p number stamp → IsNear r x p number stamp → IsAllowed r x number now
-    → option_map (λ s. s.place) (step_of r (Some x) p now) ≡ Some (place_at number stamp)
+    → Says r p number stamp → IsNearNewest r x p number stamp → IsAllowedByClock r x number now
+    → option_map (λ s. s.place) (step_of r (Some x) p now) ≡ Some (stream_place number stamp)
 found r x p number stamp now period s n allowed =
-    ap (λ (t : ℕ). place_in (with_stamp r x p (nearest x.stamp t 4294967296) now)) s.timestamp
+    ap (λ (t : ℕ). place_in (with_stamp r x p (nearest_to_base x.stamp t 4294967296) now)) s.timestamp
     ∙ ap (λ (o : Option ℕ). place_in (with_stamp r x p o now)) (near_stamp x.stamp stamp n.stamp_low n.stamp_high)
     ∙ ap (λ (b : Bool). place_in
-    (cond b None (with_number r x p (nearest (guess_of r x p stamp) p.reference r.period) stamp now)))
+    (cond b None (with_number r x p (nearest_to_base (guess_of r x p stamp) p.reference r.period) stamp now)))
     (lt-leb 70368744177664 stamp s.small)
-    ∙ ap (λ (t : ℕ). place_in (with_number r x p (nearest (guess_of r x p stamp) t r.period) stamp now)) s.reference
+    ∙ ap (λ (t : ℕ). place_in (with_number r x p (nearest_to_base (guess_of r x p stamp) t r.period) stamp now))
+    s.reference
     ∙ ap (λ (o : Option ℕ). place_in (with_number r x p o stamp now))
     (by_period r (guess_of r x p stamp) number period n.number_low n.number_high)
     ∙ placed r x p number stamp now s.few allowed

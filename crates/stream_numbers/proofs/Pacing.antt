@@ -7,10 +7,10 @@ use Rattle.stream_numbers.specs.declared.newest.Newest.{Newest}
 use Rattle.stream_numbers.specs.declared.packet.Packet.{Packet}
 use Rattle.stream_numbers.specs.declared.rate.Rate.{Rate}
 use Rattle.stream_numbers.specs.declared.stepping.Step.{Step}
-use Rattle.stream_numbers.specs.Counting.{allowed_in, nearest, time_of}
-use Rattle.stream_numbers.specs.Placing.{IsRate, advanced, guess_of, moved, newer, sequence_after, step_of, with_moved, with_number, with_stamp}
-use Rattle.stream_numbers.specs.Streams.{Heard}
-use Rattle.stream_numbers.specs.Laws.{InOrder, after_all, newest_of}
+use Rattle.stream_numbers.specs.Counting.{allowed_in, nearest_to_base, time_of}
+use Rattle.stream_numbers.specs.Placing.{IsRate, advanced, guess_of, newest_moved, newer, sequence_after, step_of, with_moved, with_number, with_stamp}
+use Rattle.stream_numbers.specs.Streams.{HeardPacket}
+use Rattle.stream_numbers.specs.Laws.{HeardInOrder, newest_after_all, newest_of}
 
 -- From x to y: the numbers and the credit that is left were paid for, by the credit that there was
 -- and by the time that went by.
@@ -101,7 +101,7 @@ advanced_paid r x p number stamp now h o i =
     (λ e. advance_paid r x p number stamp now (most - cost) h o i (omega arith) (ltb-false most cost e))
 
 moved_paid : (r : Rate) (x : Newest) (p : Packet) (number stamp now : ℕ) → 1 ≤ r.rate → x.at ≤ now
-    → PaidBy r x (moved r x p number stamp now)
+    → PaidBy r x (newest_moved r x p number stamp now)
 moved_paid r x p number stamp now h o =
     cond_both (leb 1048576 number) None
     (cond (ltb x.number number) (advanced r x p number stamp now) (Some (record x { sequence = sequence_after x p })))
@@ -125,16 +125,16 @@ with_number_paid : (r : Rate) (x : Newest) (p : Packet) (o : Option ℕ) (stamp 
     → StepPaid r x (with_number r x p o stamp now)
 with_number_paid r x p None stamp now h i = tt
 with_number_paid r x p (Some number) stamp now h i =
-    with_moved_paid r x (moved r x p number stamp now) number stamp (moved_paid r x p number stamp now h i)
+    with_moved_paid r x (newest_moved r x p number stamp now) number stamp (moved_paid r x p number stamp now h i)
 
 with_stamp_paid : (r : Rate) (x : Newest) (p : Packet) (o : Option ℕ) (now : ℕ) → 1 ≤ r.rate → x.at ≤ now
     → StepPaid r x (with_stamp r x p o now)
 with_stamp_paid r x p None now h i = tt
 with_stamp_paid r x p (Some stamp) now h i =
     cond_both (leb 70368744177664 stamp) None
-    (with_number r x p (nearest (guess_of r x p stamp) p.reference r.period) stamp now) (λ s. StepPaid r x s)
+    (with_number r x p (nearest_to_base (guess_of r x p stamp) p.reference r.period) stamp now) (λ s. StepPaid r x s)
     (λ e. tt)
-    (λ e. with_number_paid r x p (nearest (guess_of r x p stamp) p.reference r.period) stamp now h i)
+    (λ e. with_number_paid r x p (nearest_to_base (guess_of r x p stamp) p.reference r.period) stamp now h i)
 
 newest_paid : (r : Rate) (x : Newest) (o : Option Step) → StepPaid r x o → Paid r x (newest_of o x)
 newest_paid r x None h = nothing_paid r x x refl refl refl
@@ -157,7 +157,7 @@ advanced_now r x p number stamp now =
     (λ e. omega arith)
 
 moved_now : (r : Rate) (x : Newest) (p : Packet) (number stamp now : ℕ) → x.at ≤ now
-    → NowBy now (moved r x p number stamp now)
+    → NowBy now (newest_moved r x p number stamp now)
 moved_now r x p number stamp now o =
     cond_both (leb 1048576 number) None
     (cond (ltb x.number number) (advanced r x p number stamp now) (Some (record x { sequence = sequence_after x p })))
@@ -181,18 +181,18 @@ with_number_now : (r : Rate) (x : Newest) (p : Packet) (o : Option ℕ) (stamp n
     → StepNow now (with_number r x p o stamp now)
 with_number_now r x p None stamp now i = tt
 with_number_now r x p (Some number) stamp now i =
-    with_moved_now now (moved r x p number stamp now) number stamp (moved_now r x p number stamp now i)
+    with_moved_now now (newest_moved r x p number stamp now) number stamp (moved_now r x p number stamp now i)
 
 with_stamp_now : (r : Rate) (x : Newest) (p : Packet) (o : Option ℕ) (now : ℕ) → x.at ≤ now
     → StepNow now (with_stamp r x p o now)
 with_stamp_now r x p None now i = tt
 with_stamp_now r x p (Some stamp) now i =
     cond_both (leb 70368744177664 stamp) None
-    (with_number r x p (nearest (guess_of r x p stamp) p.reference r.period) stamp now) (λ s. StepNow now s)
+    (with_number r x p (nearest_to_base (guess_of r x p stamp) p.reference r.period) stamp now) (λ s. StepNow now s)
     (λ e. tt)
-    (λ e. with_number_now r x p (nearest (guess_of r x p stamp) p.reference r.period) stamp now i)
+    (λ e. with_number_now r x p (nearest_to_base (guess_of r x p stamp) p.reference r.period) stamp now i)
 
-earlier : (a b : ℕ) (hs : List Heard) → a ≤ b → InOrder b hs → InOrder a hs
+earlier : (a b : ℕ) (hs : List HeardPacket) → a ≤ b → HeardInOrder b hs → HeardInOrder a hs
 earlier a b [] h o = tt
 earlier a b (x ∷ hs) h o =
     let first = o.0 in
@@ -208,23 +208,27 @@ both_paid r x y z p q =
     let d = q.pays in
     record { pays = omega (arith, b, c, d); later = omega arith }
 
-all_paid : (r : Rate) (x : Newest) (hs : List Heard) → 1 ≤ r.rate → InOrder x.at hs → Paid r x (after_all r x hs)
+all_paid : (r : Rate) (x : Newest) (hs : List HeardPacket) → 1 ≤ r.rate → HeardInOrder x.at hs
+    → Paid r x (newest_after_all r x hs)
 all_paid r x [] h o = nothing_paid r x x refl refl refl
 all_paid r x (e ∷ hs) h o =
     let step = step_of r (Some x) e.0 e.1 in
     let y = newest_of step x in
-    let p = newest_paid r x step (with_stamp_paid r x e.0 (nearest x.stamp e.0.timestamp 4294967296) e.1 h o.0) in
-    let n = in_time r x step e.1 o.0 (with_stamp_now r x e.0 (nearest x.stamp e.0.timestamp 4294967296) e.1 o.0) in
-    both_paid r x y (after_all r y hs) p (all_paid r y hs h (earlier y.at e.1 hs n o.1))
+    let p = newest_paid r x step (with_stamp_paid r x e.0 (nearest_to_base x.stamp e.0.timestamp 4294967296) e.1 h o.0)
+    in
+    let n = in_time r x step e.1 o.0 (with_stamp_now r x e.0 (nearest_to_base x.stamp e.0.timestamp 4294967296) e.1 o.0)
+    in
+    both_paid r x y (newest_after_all r y hs) p (all_paid r y hs h (earlier y.at e.1 hs n o.1))
 
-pub never_ahead : (r : Rate) (x : Newest) (hs : List Heard) → IsRate r → InOrder x.at hs
-    → ((after_all r x hs).number - x.number) * (r.second * 10000000000)
-    ≤ r.rate * (10 * x.credit + 11 * ((after_all r x hs).at - x.at))
+pub never_ahead : (r : Rate) (x : Newest) (hs : List HeardPacket) → IsRate r → HeardInOrder x.at hs
+    → ((newest_after_all r x hs).number - x.number) * (r.second * 10000000000)
+    ≤ r.rate * (10 * x.credit + 11 * ((newest_after_all r x hs).at - x.at))
 never_ahead r x hs i o =
     let p = all_paid r x hs i.rate_low o in
     let pays = p.pays in
-    less (after_all r x hs).number x.number (r.second * 10000000000) (r.rate * (10 * (after_all r x hs).credit)) r.rate
-    (10 * x.credit) (11 * ((after_all r x hs).at - x.at)) pays
+    less (newest_after_all r x hs).number x.number (r.second * 10000000000)
+    (r.rate * (10 * (newest_after_all r x hs).credit)) r.rate
+    (10 * x.credit) (11 * ((newest_after_all r x hs).at - x.at)) pays
   where
     less : (n m s l rate credit time : ℕ) → n * s + l ≤ m * s + rate * credit + rate * time
         → (n - m) * s ≤ rate * (credit + time)

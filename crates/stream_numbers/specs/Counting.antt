@@ -3,8 +3,8 @@ use Rattle.std.specs.Prelude.{ℕ, ◌+◌, ◌-◌, ◌*◌, ◌/◌, ◌%◌, 
 
 -- The number next to base that leaves this rest: the one from half a period below it up to less
 -- than half a period above it, if it isn't negative.
-abbrev pub nearest : ℕ → ℕ → ℕ → Option ℕ
-nearest base rest period =
+abbrev pub nearest_to_base : ℕ → ℕ → ℕ → Option ℕ
+nearest_to_base base rest period =
     let top = base + period / 2 - 1 in
     let over = (top + period - rest) % period in
     if nat_lt top over then None else Some (top - over)
@@ -17,8 +17,8 @@ ahead_of before sequence =
 
 -- How many pictures are captured in so many ticks of 90 kHz, to the nearest: rate of them in second
 -- seconds.
-abbrev pub pictures_in : ℕ → ℕ → ℕ → ℕ
-pictures_in rate second ticks = (2 * ticks * rate + 90000 * second) / (180000 * second)
+abbrev pub pictures_within : ℕ → ℕ → ℕ → ℕ
+pictures_within rate second ticks = (2 * ticks * rate + 90000 * second) / (180000 * second)
 
 -- the time of so many pictures in nanoseconds, rounded up
 abbrev pub time_of : ℕ → ℕ → ℕ → ℕ

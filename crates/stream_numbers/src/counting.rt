@@ -1,6 +1,6 @@
 //! Numbers that start anew, counted on.
 ghost use Rattle.std.specs.Prelude.{◌≡◌, ◌<◌, ◌≤◌, ◌^◌, IfSome, ◌+◌};
-ghost use Rattle.stream_numbers.specs.Counting.{ahead_of, allowed_in, nearest, pictures_in, time_of};
+ghost use Rattle.stream_numbers.specs.Counting.{ahead_of, allowed_in, nearest_to_base, pictures_within, time_of};
 
 /// The number next to `base` that leaves this rest.
 pub fn nearest(base: u64, rest: u64, period: u64) -> Option<u64>
@@ -8,7 +8,7 @@ pub fn nearest(base: u64, rest: u64, period: u64) -> Option<u64>
     requires rest { rest < period }
     requires low { 2 ≤ period }
     requires high { period ≤ 2 ^ 32 }
-    ensures exact { result ≡ nearest base rest period }
+    ensures exact { result ≡ nearest_to_base base rest period }
     ensures near { IfSome result (λ n. n < base + 2 ^ 31) }
 {
     let top = base + period / 2 - 1;
@@ -34,7 +34,7 @@ pub fn pictures_in(rate: u32, second: u32, ticks: u64) -> u64
     requires second_low { 1 ≤ second }
     requires second_high { second ≤ 4096 }
     requires ticks { ticks < 2 ^ 46 }
-    ensures { result ≡ pictures_in rate second ticks }
+    ensures { result ≡ pictures_within rate second ticks }
 {
     (2 * ticks * rate as u64 + 90_000 * second as u64) / (180_000 * second as u64)
 }

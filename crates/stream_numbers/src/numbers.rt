@@ -18,7 +18,7 @@ pub struct Numbers {
 
 impl Numbers {
     ghost use Rattle.std.specs.Prelude.{◌≡◌, ◌<◌, ◌^◌, ◌∷◌, List, [], IfSome};
-    ghost use Rattle.stream_numbers.specs.Streams.{Heard, is_small, place_of};
+    ghost use Rattle.stream_numbers.specs.Streams.{HeardPacket, is_time_small, place_of};
     ghost use Rattle.stream_numbers.specs.Kept.{NumbersStand};
 
     /// No packet came yet.
@@ -43,10 +43,10 @@ impl Numbers {
         requires reference { packet.now.reference < self.old.rate.period }
         requires now { now < 2 ^ 62 }
         ensures rate { self.new.rate ≡ self.old.rate }
-        ensures place { (past : List Heard) → NumbersStand self.old past
+        ensures place { (past : List HeardPacket) → NumbersStand self.old past
             → result ≡ place_of self.old.rate past packet.now now }
-        ensures small { IfSome result is_small }
-        ensures stands { (past : List Heard) → NumbersStand self.old past
+        ensures small { IfSome result is_time_small }
+        ensures stands { (past : List HeardPacket) → NumbersStand self.old past
             → NumbersStand self.new ((packet.now, now) ∷ past) }
     {
         match taken(&self.rate, self.newest, packet, now) {

@@ -2,9 +2,9 @@
 ghost use Rattle.std.specs.Prelude.{◌≡◌, ◌<◌, ◌^◌, None, Some, IfSome};
 ghost use Rattle.std.specs.Option.{ForSome};
 ghost use Rattle.stream_numbers.specs.declared.rate.Rate.{Rate};
-ghost use Rattle.stream_numbers.specs.Streams.{is_small};
-ghost use Rattle.stream_numbers.specs.Placing.{IsNewest, IsRate, advanced, first_of, guess_of};
-ghost use Rattle.stream_numbers.specs.Placing.{moved, place_at, sequence_after, step_of, with_stamp};
+ghost use Rattle.stream_numbers.specs.Streams.{is_time_small};
+ghost use Rattle.stream_numbers.specs.Placing.{IsNewest, IsRate, advanced, newest_at_first, guess_of};
+ghost use Rattle.stream_numbers.specs.Placing.{newest_moved, stream_place, sequence_after, step_of, with_stamp};
 
 use crate::counting::{ahead_of, allowed_in, nearest, pictures_in, time_of};
 use crate::newest::Newest;
@@ -28,7 +28,7 @@ pub struct Step {
 // A picture's place.
 fn place_at(number: u32, stamp: u64) -> Place
     requires { stamp < 2 ^ 46 }
-    ensures exact { result ≡ place_at number stamp }
+    ensures exact { result ≡ stream_place number stamp }
     ensures small { result.captured < 2 ^ 62 }
 {
     Place {
@@ -40,7 +40,7 @@ fn place_at(number: u32, stamp: u64) -> Place
 // After the first packet.
 fn first_of(packet: &Packet, now: u64) -> Newest
     requires { packet.now.reference < 1024 }
-    ensures exact { result ≡ first_of packet.now now }
+    ensures exact { result ≡ newest_at_first packet.now now }
     ensures range { IsNewest result }
 {
     Newest {
@@ -118,7 +118,7 @@ fn moved(
     requires newest { IsNewest newest.now }
     requires stamp { stamp < 2 ^ 46 }
     requires now { now < 2 ^ 62 }
-    ensures exact { result ≡ moved rate.now newest.now packet.now number stamp now }
+    ensures exact { result ≡ newest_moved rate.now newest.now packet.now number stamp now }
     ensures range { IfSome result IsNewest }
 {
     if number >= PICTURES as u64 {
@@ -145,7 +145,7 @@ fn with_stamp(rate: &Rate, newest: &Newest, packet: &Packet, stamp: u64, now: u6
     requires now { now < 2 ^ 62 }
     ensures exact { result ≡ with_stamp rate.now newest.now packet.now (Some stamp) now }
     ensures range { IfSome result (λ s. IsNewest s.newest) }
-    ensures small { IfSome result (λ s. is_small s.place) }
+    ensures small { IfSome result (λ s. is_time_small s.place) }
 {
     if stamp >= TICKS {
         return None;
@@ -171,7 +171,7 @@ fn step_after(rate: &Rate, newest: &Newest, packet: &Packet, now: u64) -> Option
     requires now { now < 2 ^ 62 }
     ensures exact { result ≡ step_of rate.now (Some newest.now) packet.now now }
     ensures range { IfSome result (λ s. IsNewest s.newest) }
-    ensures small { IfSome result (λ s. is_small s.place) }
+    ensures small { IfSome result (λ s. is_time_small s.place) }
 {
     let Some(stamp) = nearest(newest.stamp, packet.timestamp as u64, 1 << 32) else {
         return None;
@@ -184,7 +184,7 @@ fn step_first(packet: &Packet, now: u64) -> Step
     requires { packet.now.reference < 1024 }
     ensures exact { (rate : Rate) → Some result ≡ step_of rate None packet.now now }
     ensures range { IsNewest result.newest }
-    ensures small { is_small result.place }
+    ensures small { is_time_small result.place }
 {
     Step {
         newest: first_of(packet, now),
@@ -200,7 +200,7 @@ pub fn taken(rate: &Rate, newest: Option<Newest>, packet: &Packet, now: u64) -> 
     requires now { now < 2 ^ 62 }
     ensures exact { result ≡ step_of rate.now newest packet.now now }
     ensures range { IfSome result (λ s. IsNewest s.newest) }
-    ensures small { IfSome result (λ s. is_small s.place) }
+    ensures small { IfSome result (λ s. is_time_small s.place) }
 {
     match newest {
         None => Some(step_first(packet, now)),

@@ -12,17 +12,17 @@ use Rattle.timed_receiver.specs.Timed as timed
 use Rattle.stream_run.specs.declared.run.StreamRun.{StreamRun}
 use Rattle.stream_run.specs.declared.run.Arrived.{Arrived}
 use Rattle.stream_run.specs.declared.run.Arrived.TheVariants as arriveds
-use Rattle.stream_run.specs.Entries.{Entry, heard_of, timed_of}
+use Rattle.stream_run.specs.Entries.{StreamEntry, heard_of, timed_of}
 
 -- its parts fit one another
-pub record IsRun (r : StreamRun) : Type 0 where
+pub record IsStreamRun (r : StreamRun) : Type 0 where
   pub lead : r.timed.receiver.params.lead ≡ r.lead
   pub few : r.lead ≤ 62
   pub together : r.timed.receiver.played ≡ r.timed.times.next
   pub wait : r.timed.times.wait < 4611686018427387904
 
 -- this came of its stream, from the first picture's number on
-pub record RunStands (r : StreamRun) (first : ℕ) (past : List Entry) : Type 0 where
+pub record RunStands (r : StreamRun) (first : ℕ) (past : List StreamEntry) : Type 0 where
   pub numbers : NumbersStand r.numbers (heard_of past)
   pub timed : TimedStands r.timed first (timed_of r.numbers.rate first r.lead past)
 
@@ -32,9 +32,9 @@ pub record RunStands (r : StreamRun) (first : ℕ) (past : List Entry) : Type 0 
 abbrev pub IsArrived : Params → ℕ → ℕ → List timed.Entry → Option Place → List ℕ → Arrived → Type 0
 IsArrived p first lead past None bytes answer = answer ≡ arriveds.NoPlace
 IsArrived p first lead past (Some place) bytes answer =
-    (nat_lt (timed.next_after first past + lead) place.number ≡ true → answer ≡ arriveds.Ahead place.number)
-    × (nat_lt place.number (timed.next_after first past) ≡ true → answer ≡ arriveds.Heard heards.Late)
-    × (nat_lt (timed.next_after first past + lead) place.number ≡ false
-    → nat_lt place.number (timed.next_after first past) ≡ false
+    (nat_lt (timed.next_number_after first past + lead) place.number ≡ true → answer ≡ arriveds.Ahead place.number)
+    × (nat_lt place.number (timed.next_number_after first past) ≡ true → answer ≡ arriveds.Heard heards.Late)
+    × (nat_lt (timed.next_number_after first past + lead) place.number ≡ false
+    → nat_lt place.number (timed.next_number_after first past) ≡ false
     → (h : Heard) × (answer ≡ arriveds.Heard h)
     × IsHeard p.clock h (answer_after p (timed.entries_of first past) bytes))

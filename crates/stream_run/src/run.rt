@@ -8,9 +8,9 @@ ghost use Rattle.stream_numbers.specs.Streams.{place_of};
 ghost use Rattle.playout_times.specs.Due.{due_of};
 ghost use Rattle.receiver_end.specs.Answers.{IsPlayed};
 ghost use Rattle.receiver_end.specs.State.{mark_after, message_after, run_of};
-ghost use Rattle.timed_receiver.specs.Timed.{arrivals_of, entries_of, is_due_after, next_after};
-ghost use Rattle.stream_run.specs.Entries.{Came, Entry, Shown, heard_of, timed_of};
-ghost use Rattle.stream_run.specs.Kept.{IsArrived, IsRun, RunStands};
+ghost use Rattle.timed_receiver.specs.Timed.{arrivals_of, entries_of, is_due_after, next_number_after};
+ghost use Rattle.stream_run.specs.Entries.{Came, StreamEntry, Shown, heard_of, timed_of};
+ghost use Rattle.stream_run.specs.Kept.{IsArrived, IsStreamRun, RunStands};
 
 use h263_planes::PictureRef;
 use h263_types::{OutOfMemory, Params};
@@ -54,7 +54,7 @@ impl StreamRun {
         requires in_range { IsParams params.now }
         requires rate { IsRate rate }
         requires wait { wait < 2 ^ 62 }
-        ensures run { IfOk result IsRun }
+        ensures run { IfOk result IsStreamRun }
         ensures rate { IfOk result (λ r. r.numbers.rate ≡ rate) }
         ensures params { IfOk result (λ r. r.timed.receiver.params ≡ params.now) }
         ensures next { IfOk result (λ r. r.timed.times.next ≡ 0) }
@@ -73,11 +73,11 @@ impl StreamRun {
     /// Begins anew in the memory that it has: nothing came. The first picture is two before the one
     /// that this temporal reference names, for packets out of order at the start.
     pub fn begin(&mut self, reference: u32, rate: Rate, wait: u64)
-        requires run { IsRun self.old }
+        requires run { IsStreamRun self.old }
         requires reference { reference < 1024 }
         requires rate { IsRate rate }
         requires wait { wait < 2 ^ 62 }
-        ensures run { IsRun self.new }
+        ensures run { IsStreamRun self.new }
         ensures rate { self.new.numbers.rate ≡ rate }
         ensures params { self.new.timed.receiver.params ≡ self.old.timed.receiver.params }
         ensures next { self.new.timed.times.next ≡ reference - 2 }
@@ -93,7 +93,7 @@ impl StreamRun {
     pub fn place(&self, packet: &Packet, now: u64) -> Option<Place>
         requires reference { packet.now.reference < self.now.numbers.rate.period }
         requires now { now < 2 ^ 62 }
-        ensures { (first : ℕ) (past : List Entry) → RunStands self.now first past
+        ensures { (first : ℕ) (past : List StreamEntry) → RunStands self.now first past
             → result ≡ place_of self.now.numbers.rate (heard_of past) packet.now now }
     {
         let mut numbers = self.numbers;
@@ -102,21 +102,21 @@ impl StreamRun {
 
     /// A packet came, no earlier than the one before.
     pub fn arrival(&mut self, packet: &Packet, bytes: &[u8], now: u64) -> Arrived
-        requires run { IsRun self.old }
+        requires run { IsStreamRun self.old }
         requires reference { packet.now.reference < self.old.numbers.rate.period }
         requires now { now < 2 ^ 62 }
         requires order { self.old.timed.times.last ≤ now }
-        ensures run { IsRun self.new }
+        ensures run { IsStreamRun self.new }
         ensures rate { self.new.numbers.rate ≡ self.old.numbers.rate }
         ensures params { self.new.timed.receiver.params ≡ self.old.timed.receiver.params }
         ensures next { self.new.timed.times.next ≡ self.old.timed.times.next }
         ensures last { self.new.timed.times.last ≤ now }
         ensures wait { self.new.timed.times.wait ≡ self.old.timed.times.wait }
-        ensures answer { (first : ℕ) (past : List Entry) → RunStands self.old first past
+        ensures answer { (first : ℕ) (past : List StreamEntry) → RunStands self.old first past
             → IsArrived self.old.timed.receiver.params first self.old.lead
             (timed_of self.old.numbers.rate first self.old.lead past)
             (place_of self.old.numbers.rate (heard_of past) packet.now now) bytes.now result }
-        ensures stands { (first : ℕ) (past : List Entry) → RunStands self.old first past
+        ensures stands { (first : ℕ) (past : List StreamEntry) → RunStands self.old first past
             → RunStands self.new first (Came packet.now bytes.now now ∷ past) }
     {
         let Some(place) = self.numbers.place(packet, now) else {
@@ -135,32 +135,32 @@ impl StreamRun {
 
     /// When the next picture is due, in nanoseconds, as far as that is known.
     pub fn due(&self) -> Option<u64>
-        ensures { (first : ℕ) (past : List Entry) → RunStands self.now first past
+        ensures { (first : ℕ) (past : List StreamEntry) → RunStands self.now first past
             → let timed = timed_of self.now.numbers.rate first self.now.lead past in
-            result ≡ due_of self.now.timed.times.wait (next_after first timed) (arrivals_of timed) }
+            result ≡ due_of self.now.timed.times.wait (next_number_after first timed) (arrivals_of timed) }
     {
         self.timed.due()
     }
 
     /// Plays the next picture, which is on the screen then. At most 1,048,576 are played.
     pub fn play(&mut self) -> Played
-        requires run { IsRun self.old }
+        requires run { IsStreamRun self.old }
         requires few { self.old.timed.times.next < 2 ^ 20 }
-        ensures run { IsRun self.new }
+        ensures run { IsStreamRun self.new }
         ensures rate { self.new.numbers.rate ≡ self.old.numbers.rate }
         ensures params { self.new.timed.receiver.params ≡ self.old.timed.receiver.params }
         ensures next { self.new.timed.times.next ≡ self.old.timed.times.next + 1 }
         ensures last { self.new.timed.times.last ≡ self.old.timed.times.last }
         ensures wait { self.new.timed.times.wait ≡ self.old.timed.times.wait }
-        ensures number { (first : ℕ) (past : List Entry) → RunStands self.old first past
-            → result.number ≡ next_after first
+        ensures number { (first : ℕ) (past : List StreamEntry) → RunStands self.old first past
+            → result.number ≡ next_number_after first
             (timed_of self.old.numbers.rate first self.old.lead past) }
-        ensures told { (first : ℕ) (past : List Entry) → RunStands self.old first past
+        ensures told { (first : ℕ) (past : List StreamEntry) → RunStands self.old first past
             → let entries = entries_of first (timed_of self.old.numbers.rate first self.old.lead past) in
             IsPlayed self.old.timed.receiver.params.clock result
             (mark_after self.old.timed.receiver.params entries)
             (message_after self.old.timed.receiver.params entries) }
-        ensures stands { (first now : ℕ) (past : List Entry) → RunStands self.old first past
+        ensures stands { (first now : ℕ) (past : List StreamEntry) → RunStands self.old first past
             → RunStands self.new first (Shown now ∷ past) }
     {
         self.timed.play()
@@ -168,7 +168,7 @@ impl StreamRun {
 
     /// The picture on the screen: the one played last, and before the first all samples are 128.
     pub fn shown(&self) -> PictureRef<'_>
-        ensures run { (first : ℕ) (past : List Entry) → RunStands self.now first past
+        ensures run { (first : ℕ) (past : List StreamEntry) → RunStands self.now first past
             → picture result ≡ (run_of self.now.timed.receiver.params
             (entries_of first (timed_of self.now.numbers.rate first self.now.lead past))).screen }
         ensures format { (picture result).format ≡ self.now.timed.receiver.params.format }
@@ -180,8 +180,8 @@ impl StreamRun {
     /// The number of the next picture.
     pub fn next(&self) -> u32
         ensures count { result ≡ self.now.timed.times.next }
-        ensures run { (first : ℕ) (past : List Entry) → RunStands self.now first past
-            → result ≡ next_after first (timed_of self.now.numbers.rate first self.now.lead past) }
+        ensures run { (first : ℕ) (past : List StreamEntry) → RunStands self.now first past
+            → result ≡ next_number_after first (timed_of self.now.numbers.rate first self.now.lead past) }
     {
         self.timed.next()
     }

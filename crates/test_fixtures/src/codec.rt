@@ -3,7 +3,7 @@ ghost use Rattle.std.specs.Prelude.{◌≡◌, ◌<◌, ◌≤◌, IsTrue};
 ghost use Rattle.h263_types.specs.Blocks.{HasQuant, IsDc, IsIntraBlock, IsLevel, IsMb, IsOfKind};
 ghost use Rattle.h263_types.specs.Sizes.{mbs_of};
 ghost use Rattle.h263_types.specs.Vectors.{InReach};
-ghost use Rattle.macroblock_layer.specs.Written.{IsNear, IsStepped};
+ghost use Rattle.macroblock_layer.specs.Written.{DquantReaches, IsStepped};
 
 use h263_types::{Block, Clock, Format, Kind, Mb, Params, Reach, Vector, reach};
 use picture_header::Header;
@@ -142,7 +142,7 @@ pub fn head_of(mb: &Mb) -> (u8, Vector) {
 // Whether a quantiser is within 2 of another one.
 fn is_near(from: u8, to: u8) -> bool
     requires { from ≤ 31 }
-    ensures { IsTrue result → IsNear from to }
+    ensures { IsTrue result → DquantReaches from to }
 {
     from <= to.saturating_add(2) && to <= from + 2
 }

@@ -3,7 +3,7 @@ ghost use Rattle.std.specs.Prelude.{◌≡◌, ◌+◌, ◌≤◌, length};
 ghost use Rattle.h263_types.specs.Blocks.{HasQuant, IsMb, IsOfKind};
 ghost use Rattle.h263_types.specs.Sizes.{mbs_of};
 ghost use Rattle.picture_header.specs.Ranges.{IsHeader};
-ghost use Rattle.packet_cutter.specs.Cutting.{format_of, kind_of, quant_of, added_of, IsBegun};
+ghost use Rattle.packet_cutter.specs.Cutting.{cut_format, cutter_kind, cutter_quant, added_of, IsPictureBegun};
 
 use crate::headers::header;
 use h263_types::{Format, Kind, Mb, Params};
@@ -15,14 +15,14 @@ use test_fixtures::codec::{PARAMS, flat_mb};
 
 // Adds a macroblock this many times.
 fn add_times(cutter: &mut Cutter, mb: &Mb, times: u32)
-    requires begun { IsBegun cutter.old }
+    requires begun { IsPictureBegun cutter.old }
     requires mb { IsMb mb.now }
-    requires kind { IsOfKind (kind_of cutter.old) mb.now }
-    requires quant { HasQuant (quant_of cutter.old) mb.now }
-    requires left { added_of cutter.old + times ≤ mbs_of (format_of cutter.old) }
-    ensures begun { IsBegun cutter.new }
+    requires kind { IsOfKind (cutter_kind cutter.old) mb.now }
+    requires quant { HasQuant (cutter_quant cutter.old) mb.now }
+    requires left { added_of cutter.old + times ≤ mbs_of (cut_format cutter.old) }
+    ensures begun { IsPictureBegun cutter.new }
     ensures added { added_of cutter.new ≡ added_of cutter.old + times }
-    ensures format { format_of cutter.new ≡ format_of cutter.old }
+    ensures format { cut_format cutter.new ≡ cut_format cutter.old }
 {
     'times: for _time in 0..times {
         cutter.add(mb);
@@ -32,11 +32,11 @@ fn add_times(cutter: &mut Cutter, mb: &Mb, times: u32)
 // Cuts a picture of one macroblock many times.
 fn cut_even(cutter: &mut Cutter, number: u32, header: &Header, mb: &Mb)
     requires header { IsHeader header.now }
-    requires format { header.now.format ≡ format_of cutter.old }
+    requires format { header.now.format ≡ cut_format cutter.old }
     requires mb { IsMb mb.now }
     requires kind { IsOfKind header.now.kind mb.now }
     requires quant { HasQuant header.now.quant mb.now }
-    ensures { format_of cutter.new ≡ format_of cutter.old }
+    ensures { cut_format cutter.new ≡ cut_format cutter.old }
 {
     cutter.begin(number, header);
     add_times(cutter, mb, header.format.mbs());
@@ -46,8 +46,8 @@ fn cut_even(cutter: &mut Cutter, number: u32, header: &Header, mb: &Mb)
 // Cuts a flat picture, if it is an I picture at quantiser 8, and a P picture of Skip.
 fn cut_picture(cutter: &mut Cutter, number: u32, header: &Header, answer: &mut Answer)
     requires header { IsHeader header.now }
-    requires format { header.now.format ≡ format_of cutter.old }
-    ensures { format_of cutter.new ≡ format_of cutter.old }
+    requires format { header.now.format ≡ cut_format cutter.old }
+    ensures { cut_format cutter.new ≡ cut_format cutter.old }
 {
     match header.kind {
         Kind::I => {

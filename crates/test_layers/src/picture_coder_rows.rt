@@ -6,7 +6,7 @@ ghost use Rattle.h263_types.specs.declared.format.Format.TheVariants.{SubQcif};
 ghost use Rattle.h263_planes.specs.Lent.{picture};
 ghost use Rattle.h263_planes.specs.References.{HasReferenceOnlyInP};
 ghost use Rattle.picture_header.specs.Ranges.{IsHeader};
-ghost use Rattle.packet_cutter.specs.Cutting.{format_of, limit_of};
+ghost use Rattle.packet_cutter.specs.Cutting.{cut_format, limit_of};
 
 use crate::pictures::picture as next_picture;
 use h263_planes::{PictureMut, PictureRef};
@@ -93,9 +93,9 @@ fn code(
     requires header_format { header.now.format ≡ params.now.format }
     requires before { HasReferenceOnlyInP header.now.kind params.now.format
         (option_map picture before) }
-    requires cutter_format { format_of cutter.old ≡ params.now.format }
+    requires cutter_format { cut_format cutter.old ≡ params.now.format }
     requires limit { limit_of cutter.old ≡ params.now.limit }
-    ensures cutter_format { format_of cutter.new ≡ params.now.format }
+    ensures cutter_format { cut_format cutter.new ≡ params.now.format }
     ensures limit { limit_of cutter.new ≡ params.now.limit }
 {
     let number = u32::from(header.tr);

@@ -5,7 +5,7 @@ ghost use Rattle.h263_types.specs.Sizes.{mbs_of};
 ghost use Rattle.macroblock_layer.specs.Written.{IsStepped};
 ghost use Rattle.picture_header.specs.Ranges.{IsHeader};
 ghost use Rattle.slice_layer.specs.Around.{quant_after};
-ghost use Rattle.slice_layer.specs.Writer.{kind_of, format_of, first_of, next_of, quant_of, GoesOn};
+ghost use Rattle.slice_layer.specs.Writer.{slice_kind, slice_format, first_mb_of, next_mb_of, quant_of, GoesOn};
 
 use crate::headers::header;
 use crate::macroblock_layer_rows::read_one;
@@ -46,13 +46,13 @@ fn stays(quant: u8, mb: &Mb) -> bool
 // Adds a macroblock that leaves the quantiser as it is this many times. Answers how often it fitted.
 fn add_times(writer: &mut SliceWriter<'_>, mb: &Mb, times: u32) -> u32
     requires mb { IsMb mb.now }
-    requires kind { IsOfKind (kind_of writer.old) mb.now }
+    requires kind { IsOfKind (slice_kind writer.old) mb.now }
     requires step { IsStepped (quant_of writer.old) mb.now }
     requires same { quant_after (quant_of writer.old) mb.now ≡ quant_of writer.old }
-    requires left { next_of writer.old + times ≤ mbs_of (format_of writer.old) }
+    requires left { next_mb_of writer.old + times ≤ mbs_of (slice_format writer.old) }
     ensures slice { GoesOn writer.old writer.new }
     ensures quant { quant_of writer.new ≡ quant_of writer.old }
-    ensures next { next_of writer.new ≡ next_of writer.old + result }
+    ensures next { next_mb_of writer.new ≡ next_mb_of writer.old + result }
     ensures few { result ≤ times }
 {
     let mut apart = MbRoom::new();
@@ -77,11 +77,11 @@ fn add_run(
 ) -> (u32, u8)
     requires quant { quant_of writer.old ≡ quant }
     requires mb { IsMb mb.now }
-    requires kind { IsOfKind (kind_of writer.old) mb.now }
-    requires left { next_of writer.old + times ≤ mbs_of (format_of writer.old) }
+    requires kind { IsOfKind (slice_kind writer.old) mb.now }
+    requires left { next_mb_of writer.old + times ≤ mbs_of (slice_format writer.old) }
     ensures slice { GoesOn writer.old writer.new }
     ensures quant { quant_of writer.new ≡ result.1 }
-    ensures next { next_of writer.new ≡ next_of writer.old + result.0 }
+    ensures next { next_mb_of writer.new ≡ next_mb_of writer.old + result.0 }
     ensures few { result.0 ≤ times }
 {
     if quant > 31 {
@@ -111,12 +111,12 @@ fn write_all(
     asked: &mut Asked<'_>,
     answer: &mut Answer,
 ) -> u32
-    requires kind { kind_of writer.old ≡ header.now.kind }
-    requires format { format_of writer.old ≡ header.now.format }
-    requires next { next_of writer.old ≡ first }
+    requires kind { slice_kind writer.old ≡ header.now.kind }
+    requires format { slice_format writer.old ≡ header.now.format }
+    requires next { next_mb_of writer.old ≡ first }
     requires quant { quant_of writer.old ≡ header.now.quant }
-    ensures first { first_of writer.new ≡ first_of writer.old }
-    ensures next { next_of writer.new ≡ first + result }
+    ensures first { first_mb_of writer.new ≡ first_mb_of writer.old }
+    ensures next { next_mb_of writer.new ≡ first + result }
 {
     let mut reader = reader_of(&asked.bytes, 0, asked.len);
     let mut added: u32 = 0;

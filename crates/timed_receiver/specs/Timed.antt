@@ -11,10 +11,10 @@ pub data Entry : Type 0 where
   Shown : (now : ℕ) → Entry
 
 -- the number of the next picture: the first one's, and one more for each play
-abbrev pub next_after : ℕ → List Entry → ℕ
-next_after first [] = first
-next_after first (Came bytes arrival ∷ past) = next_after first past
-next_after first (Shown now ∷ past) = next_after first past + 1
+abbrev pub next_number_after : ℕ → List Entry → ℕ
+next_number_after first [] = first
+next_number_after first (Came bytes arrival ∷ past) = next_number_after first past
+next_number_after first (Shown now ∷ past) = next_number_after first past + 1
 
 -- the packets, by their pictures and their times
 abbrev pub arrivals_of : List Entry → List Arrival
@@ -27,14 +27,14 @@ arrivals_of (Shown now ∷ past) = arrivals_of past
 abbrev pub entries_of : ℕ → List Entry → List ReceiverEntry
 entries_of first [] = plays_alone first
 entries_of first (Came bytes arrival ∷ past) =
-    if nat_lt arrival.picture (next_after first past)
+    if nat_lt arrival.picture (next_number_after first past)
     then entries_of first past
     else Packet bytes ∷ entries_of first past
 entries_of first (Shown now ∷ past) = PlayNext ∷ entries_of first past
 
 -- the next picture is due by this time
 abbrev pub is_due_after : ℕ → ℕ → List Entry → ℕ → Bool
-is_due_after wait first past now = is_due_by now (due_of wait (next_after first past) (arrivals_of past))
+is_due_after wait first past now = is_due_by now (due_of wait (next_number_after first past) (arrivals_of past))
 
 -- each picture was due when it was played
 abbrev pub Timely : ℕ → ℕ → List Entry → Type 0

@@ -12,7 +12,7 @@ ghost use Rattle.playout_times.specs.declared.arrival.Arrival.{Arrival};
 ghost use Rattle.playout_times.specs.Due.{due_of};
 ghost use Rattle.timed_receiver.specs.Kept.{MayBeHeard, TimedStands};
 ghost use Rattle.timed_receiver.specs.Timed.{Came, Entry, Shown, arrivals_of, entries_of};
-ghost use Rattle.timed_receiver.specs.Timed.{is_due_after, next_after};
+ghost use Rattle.timed_receiver.specs.Timed.{is_due_after, next_number_after};
 
 use h263_planes::PictureRef;
 use h263_types::{OutOfMemory, Params};
@@ -95,7 +95,7 @@ impl TimedReceiver {
     /// one.
     pub fn due(&self) -> Option<u64>
         ensures { (first : ℕ) (past : List Entry) → TimedStands self.now first past
-            → result ≡ due_of self.now.times.wait (next_after first past) (arrivals_of past) }
+            → result ≡ due_of self.now.times.wait (next_number_after first past) (arrivals_of past) }
     {
         self.times.due()
     }
@@ -118,7 +118,7 @@ impl TimedReceiver {
         ensures played { self.new.receiver.played ≡ self.old.receiver.played + 1 }
         ensures last { self.new.times.last ≡ self.old.times.last }
         ensures number { (first : ℕ) (past : List Entry) → TimedStands self.old first past
-            → result.number ≡ next_after first past }
+            → result.number ≡ next_number_after first past }
         ensures told { (first : ℕ) (past : List Entry) → TimedStands self.old first past
             → IsPlayed self.old.receiver.params.clock result
             (mark_after self.old.receiver.params (entries_of first past))
@@ -144,7 +144,7 @@ impl TimedReceiver {
     pub fn next(&self) -> u32
         ensures count { result ≡ self.now.times.next }
         ensures run { (first : ℕ) (past : List Entry) → TimedStands self.now first past
-            → result ≡ next_after first past }
+            → result ≡ next_number_after first past }
     {
         self.times.next()
     }

@@ -6,7 +6,7 @@ use Rattle.h263_types.specs.declared.format.Format.TheVariants.{SubQcif, Qcif, C
 use Rattle.h263_types.specs.Sizes.{size_of_picture}
 use Rattle.y4m.specs.declared.fault.Y4mFault.{Y4mFault}
 use Rattle.y4m.specs.Frame.{frame_of, frame_size, next_frame}
-use Rattle.y4m.specs.Video.{after_frame, frames_from, frames_of, fault_from, fault_of}
+use Rattle.y4m.specs.Video.{after_frame, frame_then, frames_of, video_fault_from, first_video_fault}
 use Rattle.y4m.specs.Laws.{IsFollowed}
 use Rattle.y4m.proofs.Cuts.{frame_stays}
 
@@ -17,20 +17,20 @@ frames_step f zero m at rest frame less some is = absurd (omega (arith, less))
 frames_step f (suc n) m at [] frame less some is = absurd (omega arith)
 frames_step f (suc n) m at (b ∷ rest) frame less some is =
     let same : n ≡ m = omega (arith, less) in
-    ap (λ (r : Result (List ℕ) Y4mFault). frames_from r (frames_of f n (at + frame_size f (b ∷ rest))
+    ap (λ (r : Result (List ℕ) Y4mFault). frame_then r (frames_of f n (at + frame_size f (b ∷ rest))
     (after_frame f (b ∷ rest)))) is
     ∙ ap (λ (k : ℕ). frame ∷ frames_of f k (at + frame_size f (b ∷ rest)) (after_frame f (b ∷ rest))) same
 
 fault_step : (f : Format) (n m at : ℕ) (rest frame : List ℕ) → m + 1 ≡ n → 0 < length rest → next_frame n f at rest
-    ≡ Ok frame → fault_of f n at rest ≡ fault_of f m (at + frame_size f rest) (after_frame f rest)
-unfolding fault_of
+    ≡ Ok frame → first_video_fault f n at rest ≡ first_video_fault f m (at + frame_size f rest) (after_frame f rest)
+unfolding first_video_fault
 fault_step f zero m at rest frame less some is = absurd (omega (arith, less))
 fault_step f (suc n) m at [] frame less some is = absurd (omega arith)
 fault_step f (suc n) m at (b ∷ rest) frame less some is =
     let same : n ≡ m = omega (arith, less) in
-    ap (λ (r : Result (List ℕ) Y4mFault). fault_from r (fault_of f n (at + frame_size f (b ∷ rest))
+    ap (λ (r : Result (List ℕ) Y4mFault). video_fault_from r (first_video_fault f n (at + frame_size f (b ∷ rest))
     (after_frame f (b ∷ rest)))) is
-    ∙ ap (λ (k : ℕ). fault_of f k (at + frame_size f (b ∷ rest)) (after_frame f (b ∷ rest))) same
+    ∙ ap (λ (k : ℕ). first_video_fault f k (at + frame_size f (b ∷ rest)) (after_frame f (b ∷ rest))) same
 
 pub frames_stop : (f : Format) (n at : ℕ) (rest : List ℕ) (fault : Y4mFault) → next_frame n f at rest ≡ Err fault
     → frames_of f n at rest ≡ []
@@ -38,19 +38,19 @@ unfolding frames_of
 frames_stop f zero at rest fault is = refl
 frames_stop f (suc n) at [] fault is = refl
 frames_stop f (suc n) at (b ∷ rest) fault is =
-    ap (λ (r : Result (List ℕ) Y4mFault). frames_from r (frames_of f n (at + frame_size f (b ∷ rest))
+    ap (λ (r : Result (List ℕ) Y4mFault). frame_then r (frames_of f n (at + frame_size f (b ∷ rest))
     (after_frame f (b ∷ rest)))) is
 
 pub fault_stop : (f : Format) (n at : ℕ) (rest : List ℕ) (fault : Y4mFault) → 0 < length rest → next_frame n f at rest
-    ≡ Err fault → fault_of f n at rest ≡ Some fault
-unfolding fault_of
+    ≡ Err fault → first_video_fault f n at rest ≡ Some fault
+unfolding first_video_fault
 fault_stop f n at [] fault some is = absurd (omega arith)
 fault_stop f zero at (b ∷ rest) fault some is = full (b ∷ rest) is
   where
-    full : (rest : List ℕ) → next_frame 0 f at rest ≡ Err fault → fault_of f 0 at (b ∷ rest) ≡ Some fault
+    full : (rest : List ℕ) → next_frame 0 f at rest ≡ Err fault → first_video_fault f 0 at (b ∷ rest) ≡ Some fault
     full rest is = cc
 fault_stop f (suc n) at (b ∷ rest) fault some is =
-    ap (λ (r : Result (List ℕ) Y4mFault). fault_from r (fault_of f n (at + frame_size f (b ∷ rest))
+    ap (λ (r : Result (List ℕ) Y4mFault). video_fault_from r (first_video_fault f n (at + frame_size f (b ∷ rest))
     (after_frame f (b ∷ rest)))) is
 
 pub frames-nil : (f : Format) (n at : ℕ) → frames_of f n at [] ≡ []
@@ -58,8 +58,8 @@ unfolding frames_of
 frames-nil f zero at = refl
 frames-nil f (suc n) at = refl
 
-pub fault-nil : (f : Format) (n at : ℕ) → fault_of f n at [] ≡ None
-unfolding fault_of
+pub fault-nil : (f : Format) (n at : ℕ) → first_video_fault f n at [] ≡ None
+unfolding first_video_fault
 fault-nil f zero at = refl
 fault-nil f (suc n) at = refl
 
@@ -92,7 +92,7 @@ followed f n m at rest frame less some is = record {
   cut = λ k. frames_cut f n m at k rest frame less some is;
 }
 
-none_from : (r : Result (List ℕ) Y4mFault) (more : List (List ℕ)) → IsErr r → frames_from r more ≡ []
+none_from : (r : Result (List ℕ) Y4mFault) (more : List (List ℕ)) → IsErr r → frame_then r more ≡ []
 none_from (Ok frame) more lost = absurd (cc lost)
 none_from (Err fault) more lost = refl
 

@@ -5,10 +5,11 @@ use Rattle.std.proofs.lemmas.List.Elements.{All-nil, All-cons, All-head, All-tai
 use Rattle.std.proofs.Math.Seq.{take-append-add, take-add}
 use Rattle.h263_types.specs.declared.format.Format.{Format}
 use Rattle.h263_types.specs.Sizes.{size_of_picture}
-use Rattle.y4m.specs.Line.{NoNewline, line_within}
+use Rattle.h263_outside.specs.Lines.{NoNewline}
+use Rattle.y4m.specs.Line.{line_within}
 use Rattle.y4m.specs.Head.{head_line, head_size, head_of}
 use Rattle.y4m.specs.Frame.{frame_line, frame_size, line_stop, frame_of}
-use Rattle.y4m.specs.Spelled.{IsLine, IsHead, Frame, IsFrame}
+use Rattle.y4m.specs.Spelled.{IsTextLine, IsHead, SpelledFrame, IsFrame}
 use Rattle.y4m.proofs.Frames.{size_is, line_fits}
 use Rattle.y4m.proofs.Spelling.{line_found, line_front, line_is}
 use Rattle.y4m.proofs.Videos.{free, head_is, head_found, frame_is, frame_parts, planes_parts, line_stops, frame_text, frame_found, line_there}
@@ -25,13 +26,13 @@ newline_in [] more none = All-head Other 10 more none refl
 newline_in (b ∷ front) more none = newline_in front more (All-tail Other b ((front ++ 10 ∷ []) ++ more) none)
 
 -- a whole line has a newline
-no_line : (n : ℕ) (word xs : List ℕ) → NoNewline xs → IsLine word (line_within n xs) → ⊥
+no_line : (n : ℕ) (word xs : List ℕ) → NoNewline xs → IsTextLine word (line_within n xs) → ⊥
 no_line n word xs none l =
     let rest = drop (length (line_within n xs)) xs in
     newline_in (word ++ l.tail) rest (subst NoNewline (line_front n xs ∙ ap (λ (x : List ℕ). x ++ rest) l.text) none)
 
 -- a whole line has its word and a newline
-pub line_least : (word line : List ℕ) → IsLine word line → length word < length line
+pub line_least : (word line : List ℕ) → IsTextLine word line → length word < length line
 line_least word line l = omega (
   arith,
   ap (λ (x : List ℕ). length x) l.text,
@@ -41,7 +42,7 @@ line_least word line l = omega (
 
 -- bytes that are cut, n of a text with this word
 cut_line : (n least k : ℕ) (word text : List ℕ) → least ≤ length word + 1 → (least ≤ k → NoNewline (take k text))
-    → IsLine word (line_within n (take k text)) → ⊥
+    → IsTextLine word (line_within n (take k text)) → ⊥
 cut_line n least k word text le free l =
     elim (cases_lt k least) [
       | inl lt ↦ absurd (omega (
@@ -78,7 +79,7 @@ module _ (f : Format) (at j : ℕ) (rest : List ℕ) (whole : line_stop (frame_l
   abbrev taken : List ℕ
   taken = take (length (frame_line rest) + j) rest
 
-  spelled : IsLine (codes "FRAME") (frame_line rest)
+  spelled : IsTextLine (codes "FRAME") (frame_line rest)
   spelled = let line = line_stops (frame_line rest) whole in line_is 257 (codes "FRAME") rest line.0 line.1
 
   taken_is : taken ≡ frame_line rest ++ take j (drop (length (frame_line rest)) rest)
@@ -136,7 +137,7 @@ pub frame_stays : (f : Format) (at k : ℕ) (rest planes : List ℕ) → frame_o
     × (frame_size f (take k rest) ≡ frame_size f rest)
 frame_stays f at k rest planes is le =
     let line = frame_line rest in
-    let x : Frame = record { line = line; planes = planes } in
+    let x : SpelledFrame = record { line = line; planes = planes } in
     let whole : IsFrame f x = frame_is f at rest planes is in
     let more = drop (frame_size f rest) rest in
     let size : length (line ++ planes) ≡ frame_size f rest = length-append line planes

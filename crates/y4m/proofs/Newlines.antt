@@ -8,8 +8,9 @@ use Rattle.std.proofs.lemmas.Bool.{cases_eq, cases_lt}
 use Rattle.std.proofs.lemmas.Bool.Decides.{nat_tests}
 use Rattle.std.proofs.lemmas.List.{drop-drop, take_all, take-append-le}
 use Rattle.std.proofs.lemmas.List.Elements.{All-nil, All-cons, All-head, All-tail, All-append}
-use Rattle.y4m.specs.Line.{NoNewline, through_newline, line_within}
-use Rattle.y4m.specs.Planes.{IsCut}
+use Rattle.h263_outside.specs.Lines.{NoNewline}
+use Rattle.y4m.specs.Line.{through_newline, line_within}
+use Rattle.y4m.specs.Planes.{IsVideoCut}
 use Rattle.y4m.proofs.Spelling.{through_other}
 
 abbrev Other : ℕ → Type 0
@@ -144,8 +145,9 @@ gone_is left k len least le ends short =
     ]
 
 -- what was gone when a read failed after them
-pub cut_past : (left : List ℕ) (k : ℕ) (now : Option (List ℕ)) → NoNewline (take k left) → IsCut 0 (drop k left) now
-    → IsCut k left now
+pub cut_past : (left : List ℕ) (k : ℕ) (now : Option (List ℕ)) → NoNewline (take k left)
+    → IsVideoCut 0 (drop k left) now
+    → IsVideoCut k left now
 cut_past left k now none cut = record {
   taken = k + cut.taken;
   gone = cut.gone ∙ ap (λ (l : List ℕ). Some l) (drop-drop cut.taken k left);

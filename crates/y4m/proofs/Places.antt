@@ -6,7 +6,8 @@ use Rattle.std.proofs.lemmas.List.Elements.{All-nil, All-cons, All-head, All-tai
 use Rattle.h263_types.specs.declared.format.Format.{Format}
 use Rattle.h263_types.specs.Sizes.{size_of_picture}
 use Rattle.y4m.specs.declared.fault.Y4mFault.TheVariants.{NotY4m, ShortFrame}
-use Rattle.y4m.specs.Line.{NoNewline, agreement, through_newline, is_whole}
+use Rattle.h263_outside.specs.Lines.{NoNewline}
+use Rattle.y4m.specs.Line.{agreement, through_newline, is_line_whole}
 use Rattle.y4m.specs.Frame.{frame_line, line_stop, stop_fault, planes_of, frame_after_line, frame_of}
 use Rattle.y4m.proofs.Spelling.{last_cons, through_other, other_heads, same_heads_as}
 use Rattle.y4m.proofs.Videos.{free}
@@ -84,7 +85,7 @@ open_at k size whole is = elim (cases_lt k 6) [
     by_whole false e = let m : min size 256 ≡ size = cc e in (omega (arith, m), refl)
 
 stops_open : (line : List ℕ) → line_stop line ≡ Some (length line) → (length line ≤ 256) × (last_of line ≢ 10)
-stops_open line is = elim (open_at (agreement (codes "FRAME") line) (length line) (is_whole line) is) [
+stops_open line is = elim (open_at (agreement (codes "FRAME") line) (length line) (is_line_whole line) is) [
   | inl p ↦ (
     omega (arith, p.0, p.1),
     free_last line (agreed_free (codes "FRAME") line (free (codes "FRAME") refl) p.1 (omega (arith, p.0, p.1))),

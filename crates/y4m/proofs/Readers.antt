@@ -9,20 +9,20 @@ use Rattle.y4m.specs.declared.fault.VideoStop.TheVariants.{Read, Refused}
 use Rattle.y4m.specs.Place.{Y4mPlace}
 use Rattle.y4m.specs.Head.{head_of}
 use Rattle.y4m.specs.Frame.{frame_line, line_stop, frame_of, next_frame}
-use Rattle.y4m.specs.Planes.{PlanesGive, IsCut}
+use Rattle.y4m.specs.Planes.{PlanesGive, IsVideoCut}
 use Rattle.y4m.specs.Reader.{HeadGives, FrameGives}
 use Rattle.y4m.proofs.Cuts.{head_cut, frame_cut, planes_cut}
 use Rattle.y4m.proofs.Results.{err_is}
 
 -- a read failed within a line
 pub head_stopped : (video : List ℕ) (left : Option (List ℕ)) (r : Result Y4mPlace VideoStop) (stop : VideoStop)
-    → IsErrAnd r (λ x. x ≡ stop) → stop ≡ Read → IsCut 10 video left → HeadGives r video left
+    → IsErrAnd r (λ x. x ≡ stop) → stop ≡ Read → IsVideoCut 10 video left → HeadGives r video left
 head_stopped video left r stop is read cut =
     subst (λ (r : Result Y4mPlace VideoStop). HeadGives r video left) (sym (err_is r stop is
     ∙ ap (λ (s : VideoStop). Err s) read)) (cut.taken, cut.gone, head_cut cut.taken video cut.free)
 
 pub frame_stopped : (old new : Y4mPlace) (rest out : List ℕ) (left : Option (List ℕ)) (r : Result Bool VideoStop)
-    (stop : VideoStop) → IsErrAnd r (λ x. x ≡ stop) → stop ≡ Read → IsCut 6 rest left
+    (stop : VideoStop) → IsErrAnd r (λ x. x ≡ stop) → stop ≡ Read → IsVideoCut 6 rest left
     → FrameGives r old rest out new left
 frame_stopped old new rest out left r stop is read cut =
     subst (λ (r : Result Bool VideoStop). FrameGives r old rest out new left) (sym (err_is r stop is

@@ -5,8 +5,9 @@ use Rattle.std.proofs.lemmas.Bool.Decides.{nat_tests}
 use Rattle.std.proofs.lemmas.List.Elements.{All-nil, All-cons, All-head, All-tail, All-append, All-drop}
 use Rattle.std.proofs.Math.Seq.{take-append_seam, get_or-append_seam}
 use Rattle.std.proofs.lemmas.List.{take-append-le, get_or-append-add}
-use Rattle.y4m.specs.Line.{NoNewline, is_gap, agreement, through_newline, line_within, is_whole}
-use Rattle.y4m.specs.Spelled.{StandsApart, IsLine}
+use Rattle.h263_outside.specs.Lines.{NoNewline}
+use Rattle.y4m.specs.Line.{is_gap, agreement, through_newline, line_within, is_line_whole}
+use Rattle.y4m.specs.Spelled.{StandsApart, IsTextLine}
 
 abbrev Other : ℕ → Type 0
 Other b = b ≢ 10
@@ -24,7 +25,7 @@ through_found (suc n) (b ∷ xs) more none lt =
     ∙ ap (λ (l : List ℕ). b ∷ l) (through_found n xs more (All-tail Other b xs none) (omega arith))
 
 -- a line is found where its text stands
-pub line_found : (n : ℕ) (word line more : List ℕ) → NoNewline word → IsLine word line → length line ≤ n
+pub line_found : (n : ℕ) (word line more : List ℕ) → NoNewline word → IsTextLine word line → length line ≤ n
     → line_within n (line ++ more) ≡ line
 line_found n word line more none l le =
     let whole : line ++ more ≡ (word ++ l.tail) ++ 10 ∷ more = ap (λ (x : List ℕ). x ++ more) l.text
@@ -47,7 +48,7 @@ gap_first : (tail : List ℕ) → StandsApart tail → agreement [] (tail ++ 10 
 gap_first [] apart = refl
 gap_first (b ∷ tail) apart = ap (λ (b : ℕ). agreement [] (b ∷ (tail ++ 10 ∷ []))) apart
 
-pub line_agrees : (word line : List ℕ) → IsLine word line → agreement word line ≡ length word + 1
+pub line_agrees : (word line : List ℕ) → IsTextLine word line → agreement word line ≡ length word + 1
 line_agrees word line l =
     ap (λ (x : List ℕ). agreement word x) (l.text ∙ append_assoc word l.tail (10 ∷ []))
     ∙ agreement-append word (l.tail ++ 10 ∷ [])
@@ -56,7 +57,7 @@ line_agrees word line l =
 whole_if : (n b : ℕ) → n ≤ 256 → b ≡ 10 → (nat_le n 256 && b == 10) ≡ true
 whole_if n b le is = grind (arith, nat_tests)
 
-pub line_whole : (word line : List ℕ) → IsLine word line → is_whole line ≡ true
+pub line_whole : (word line : List ℕ) → IsTextLine word line → is_line_whole line ≡ true
 line_whole word line l =
     let size : length line - 1 ≡ length (word ++ l.tail) = omega (
       arith,
@@ -180,7 +181,7 @@ apart_of (b ∷ tail) gap one = space b gap (All-head Other b tail one)
 
 -- a whole line that is found has its word and no newline inside
 pub line_is : (n : ℕ) (word bytes : List ℕ) → length word < agreement word (line_within n bytes)
-    → is_whole (line_within n bytes) ≡ true → IsLine word (line_within n bytes)
+    → is_line_whole (line_within n bytes) ≡ true → IsTextLine word (line_within n bytes)
 line_is n word bytes agrees whole =
     let line = line_within n bytes in
     let last = get_or line (length line - 1) 0 in

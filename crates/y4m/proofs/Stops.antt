@@ -11,10 +11,11 @@ use Rattle.h263_types.specs.declared.format.Format.TheVariants.{SubQcif}
 use Rattle.h263_types.specs.Sizes.{size_of_picture}
 use Rattle.y4m.specs.declared.fault.Y4mFault.{Y4mFault}
 use Rattle.y4m.specs.declared.fault.Y4mFault.TheVariants.{NotY4m, ShortFrame}
-use Rattle.y4m.specs.Line.{Tag, NoNewline, is_gap, agreement, line_within, is_whole, tags_of}
-use Rattle.y4m.specs.Head.{tag_fault, tags_fault, sized, format_in, format_of_line, head_line, head_of}
+use Rattle.h263_outside.specs.Lines.{NoNewline}
+use Rattle.y4m.specs.Line.{Tag, is_gap, agreement, line_within, is_line_whole, tags_of}
+use Rattle.y4m.specs.Head.{tag_fault, tags_fault, format_sized, format_in, format_of_line, head_line, head_of}
 use Rattle.y4m.specs.Frame.{frame_line, line_stop, stop_fault, planes_of, frame_after_line, frame_of}
-use Rattle.y4m.specs.Spelled.{StandsApart, IsLine, Frame, IsFrame, IsVideo}
+use Rattle.y4m.specs.Spelled.{StandsApart, IsTextLine, SpelledFrame, IsFrame, IsVideo}
 use Rattle.y4m.specs.Text.{head_text}
 use Rattle.y4m.specs.Begun.{BeginsVideo, BeginsFrame}
 use Rattle.y4m.proofs.Spelling.{other_heads, same_heads_as, agreement-append}
@@ -111,7 +112,7 @@ all_there word m bytes none few le lt =
     ]
 
 -- a whole line agrees with its word and the gap after it, whatever follows
-begun : (word line rest : List ℕ) → IsLine word line → agreement word (line ++ rest) ≡ length word + 1
+begun : (word line rest : List ℕ) → IsTextLine word line → agreement word (line ++ rest) ≡ length word + 1
 begun word line rest l =
     let tail = l.tail ++ 10 ∷ [] in
     let parts : line ++ rest ≡ word ++ (tail ++ rest) = ap (λ (x : List ℕ). x ++ rest) (l.text
@@ -125,7 +126,7 @@ begun word line rest l =
 
 -- where bytes stop agreeing inside the word, they go on to no whole line
 no_line : (word bytes more line rest : List ℕ) (m n : ℕ) → n ≡ agreement word (line_within m bytes)
-    → n < length (line_within m bytes) → n < length word + 1 → IsLine word line → take (suc n) bytes ++ more ≡ line
+    → n < length (line_within m bytes) → n < length word + 1 → IsTextLine word line → take (suc n) bytes ++ more ≡ line
     ++ rest → ⊥
 no_line word bytes more line rest m n is lt inside l whole =
     let taken : take (suc n) (line_within m bytes) ≡ take (suc n) bytes = line_take m bytes (suc n)
@@ -166,7 +167,7 @@ not_of_tags (tag ∷ tags) n e = at (tag_fault tag) refl e (not_of_tags tags n)
     at (Some fault) is e more = not_of_tag tag n (let same : tags_fault (tag ∷ tags) ≡ Some fault = rw is refl in is
         ∙ sym same ∙ e)
 
-not_of_size : (o : Option Format) (at n : ℕ) → sized o at ≡ Err (NotY4m n) → ⊥
+not_of_size : (o : Option Format) (at n : ℕ) → format_sized o at ≡ Err (NotY4m n) → ⊥
 not_of_size None at n e = cc
 not_of_size (Some f) at n e = cc
 
@@ -183,10 +184,10 @@ head_agrees line n e lt =
     elim (cases_lt k 10) [
       | inl inside ↦ sym (not_y4m_is k n (err_fault (NotY4m k) (NotY4m n) (format_of_line line)
           (no_word k line refl (omega (arith, inside))) e))
-      | inr after ↦ absurd (at (tags_fault (tags_of line)) (is_whole line) refl refl (omega (arith, after)))
+      | inr after ↦ absurd (at (tags_fault (tags_of line)) (is_line_whole line) refl refl (omega (arith, after)))
     ]
   where
-    at : (o : Option Y4mFault) (t : Bool) → tags_fault (tags_of line) ≡ o → is_whole line ≡ t
+    at : (o : Option Y4mFault) (t : Bool) → tags_fault (tags_of line) ≡ o → is_line_whole line ≡ t
         → 9 < agreement head_word line → ⊥
     at (Some fault) t p q more = not_of_tags (tags_of line) n (p
         ∙ ap (λ (x : Y4mFault). Some x) (err_fault fault (NotY4m n) (format_of_line line)
@@ -285,11 +286,12 @@ frame_agrees f at n rest e lt = by (line_stop (frame_line rest)) refl e
         let fault : stop_fault at (length (frame_line rest)) stop ≡ NotY4m (at + n) = cc e in
         let here : line_stop (frame_line rest) ≡ Some n = is
         ∙ ap (λ (k : ℕ). Some k) (stop_not at (length (frame_line rest)) stop n fault) in
-        stop_agrees (agreement frame_word (frame_line rest)) (length (frame_line rest)) n (is_whole (frame_line rest))
+        stop_agrees (agreement frame_word (frame_line rest)) (length (frame_line rest)) n
+        (is_line_whole (frame_line rest))
         (agreed_within frame_word (frame_line rest)) here lt
 
 -- a frame with no tag and only zeros
-abbrev blank_frame : Format → Frame
+abbrev blank_frame : Format → SpelledFrame
 blank_frame f = record { line = frame_word ++ 10 ∷ []; planes = replicate (size_of_picture f) 0 }
 
 blank_is : (f : Format) → IsFrame f (blank_frame f)

@@ -10,11 +10,12 @@ use Rattle.h263_types.specs.declared.format.Format.{Format}
 use Rattle.h263_types.specs.Sizes.{size_of_picture}
 use Rattle.y4m.specs.declared.fault.Y4mFault.{Y4mFault}
 use Rattle.y4m.specs.declared.fault.Y4mFault.TheVariants.{NotY4m, ShortFrame}
-use Rattle.y4m.specs.Line.{NoNewline, Tag, agreement, is_whole, tags_of}
-use Rattle.y4m.specs.Head.{or_else, tag_fault, tags_fault, format_in, sized, unless, format_of_line, head_line, head_size, head_of}
+use Rattle.h263_outside.specs.Lines.{NoNewline}
+use Rattle.y4m.specs.Line.{Tag, agreement, is_line_whole, tags_of}
+use Rattle.y4m.specs.Head.{or_else, tag_fault, tags_fault, format_in, format_sized, format_unless, format_of_line, head_line, head_size, head_of}
 use Rattle.y4m.specs.Frame.{frame_line, frame_size, line_stop, planes_of, frame_after_line, frame_of}
-use Rattle.y4m.specs.Video.{frames_from, fault_from, frames_of, fault_of, fault_after_head, frames_after_head, video_fault, video_frames}
-use Rattle.y4m.specs.Spelled.{IsLine, IsHead, Frame, IsFrame, IsVideo}
+use Rattle.y4m.specs.Video.{frame_then, video_fault_from, frames_of, first_video_fault, fault_after_head, frames_after_head, video_fault, video_frames}
+use Rattle.y4m.specs.Spelled.{IsTextLine, IsHead, SpelledFrame, IsFrame, IsVideo}
 use Rattle.y4m.proofs.Frames.{planes_there, size_is}
 use Rattle.y4m.proofs.Heads.{whole_head}
 use Rattle.y4m.proofs.Spelling.{line_found, line_agrees, line_whole, line_front, line_is}
@@ -85,13 +86,14 @@ head_ends line more f h =
     ∙ drop-append_seam line more
 
 head_parts : (k size : ℕ) (fault : Option Y4mFault) (whole : Bool) (format : Option Format) (f : Format)
-    → cond (nat_lt k 10) (Err (NotY4m k)) (unless fault (cond whole (sized format (size - 1)) (Err (NotY4m size))))
+    → cond (nat_lt k 10) (Err (NotY4m k))
+    (format_unless fault (cond whole (format_sized format (size - 1)) (Err (NotY4m size))))
     ≡ Ok f → (9 < k) × (fault ≡ None) × (whole ≡ true) × (format ≡ Some f)
 head_parts k size fault whole format f is = elim (cases_lt k 10) [
   | inl lt ↦ absurd (below lt)
   | inr le ↦ (let rest = by_fault fault whole format
       (sym (ap (λ (b : Bool). cond b (Err (NotY4m k))
-      (unless fault (cond whole (sized format (size - 1)) (Err (NotY4m size))))) (above le)) ∙ is) in
+      (format_unless fault (cond whole (format_sized format (size - 1)) (Err (NotY4m size))))) (above le)) ∙ is) in
       (omega (arith, le), rest.0, rest.1, rest.2))
 ]
   where
@@ -104,10 +106,11 @@ head_parts k size fault whole format f is = elim (cases_lt k 10) [
     below : k < 10 → ⊥
     below lt = let e : Err (NotY4m k)
         ≡ Ok f = sym (ap (λ (b : Bool). cond b (Err (NotY4m k))
-        (unless fault (cond whole (sized format (size - 1)) (Err (NotY4m size))))) (test k lt)) ∙ is in cc e
+        (format_unless fault (cond whole (format_sized format (size - 1)) (Err (NotY4m size))))) (test k lt)) ∙ is in
+        cc e
 
     by_fault : (fault : Option Y4mFault) (whole : Bool) (format : Option Format)
-        → unless fault (cond whole (sized format (size - 1)) (Err (NotY4m size))) ≡ Ok f
+        → format_unless fault (cond whole (format_sized format (size - 1)) (Err (NotY4m size))) ≡ Ok f
         → (fault ≡ None) × (whole ≡ true) × (format ≡ Some f)
     by_fault (Some x) whole format is = absurd (cc is)
     by_fault None false format is = absurd (cc is)
@@ -119,7 +122,7 @@ unfolding format_of_line
 head_is video f is =
     let line = head_line video in
     let parts = head_parts (agreement (codes "YUV4MPEG2") line) (length line) (tags_fault (tags_of line))
-    (is_whole line) (format_in (tags_of line)) f is in
+    (is_line_whole line) (format_in (tags_of line)) f is in
     record {
       spelled = line_is 256 (codes "YUV4MPEG2") video parts.0 parts.2;
       accepted = tags_accepted (tags_of line) parts.1;
@@ -160,12 +163,13 @@ stop_parts k size whole is = elim (cases_lt k 6) [
     by_whole true is = refl
     by_whole false is = absurd (cc is)
 
-pub line_stops : (line : List ℕ) → line_stop line ≡ None → (5 < agreement (codes "FRAME") line) × (is_whole line ≡ true)
-line_stops line is = stop_parts (agreement (codes "FRAME") line) (min (length line) 256) (is_whole line) is
+pub line_stops : (line : List ℕ) → line_stop line ≡ None → (5 < agreement (codes "FRAME") line)
+    × (is_line_whole line ≡ true)
+line_stops line is = stop_parts (agreement (codes "FRAME") line) (min (length line) 256) (is_line_whole line) is
 
-line_goes_on : (line : List ℕ) → IsLine (codes "FRAME") line → line_stop line ≡ None
+line_goes_on : (line : List ℕ) → IsTextLine (codes "FRAME") line → line_stop line ≡ None
 line_goes_on line l =
-    stop_found (agreement (codes "FRAME") line) (min (length line) 256) (is_whole line)
+    stop_found (agreement (codes "FRAME") line) (min (length line) 256) (is_line_whole line)
     (omega (arith, line_agrees (codes "FRAME") line l)) (line_whole (codes "FRAME") line l)
 
 pub planes_parts : (f : Format) (at n : ℕ) (rest planes : List ℕ) → planes_of f at n rest ≡ Ok planes
@@ -231,7 +235,7 @@ frame_text f at rest planes is =
     line_front 257 rest ∙ ap (λ (l : List ℕ). frame_line rest ++ l) after
     ∙ sym (append_assoc (frame_line rest) planes (drop (frame_size f rest) rest))
 
-module _ (f : Format) (at : ℕ) (x : Frame) (more : List ℕ) (is : IsFrame f x) where
+module _ (f : Format) (at : ℕ) (x : SpelledFrame) (more : List ℕ) (is : IsFrame f x) where
   abbrev rest : List ℕ
   rest = (x.line ++ x.planes) ++ more
 
@@ -269,15 +273,16 @@ frames_step : (f : Format) (n at : ℕ) (rest planes : List ℕ) → 0 < length 
 unfolding frames_of
 frames_step f n at [] planes more is = absurd (omega arith)
 frames_step f n at (b ∷ rest) planes more is =
-    ap (λ (r : Result (List ℕ) Y4mFault). frames_from r (frames_of f n (at + frame_size f (b ∷ rest))
+    ap (λ (r : Result (List ℕ) Y4mFault). frame_then r (frames_of f n (at + frame_size f (b ∷ rest))
     (drop (frame_size f (b ∷ rest)) (b ∷ rest)))) is
 
 fault_step : (f : Format) (n at : ℕ) (rest planes : List ℕ) → 0 < length rest → frame_of f at rest ≡ Ok planes
-    → fault_of f (suc n) at rest ≡ fault_of f n (at + frame_size f rest) (drop (frame_size f rest) rest)
-unfolding fault_of
+    → first_video_fault f (suc n) at rest ≡ first_video_fault f n (at + frame_size f rest)
+    (drop (frame_size f rest) rest)
+unfolding first_video_fault
 fault_step f n at [] planes more is = absurd (omega arith)
 fault_step f n at (b ∷ rest) planes more is =
-    ap (λ (r : Result (List ℕ) Y4mFault). fault_from r (fault_of f n (at + frame_size f (b ∷ rest))
+    ap (λ (r : Result (List ℕ) Y4mFault). video_fault_from r (first_video_fault f n (at + frame_size f (b ∷ rest))
     (drop (frame_size f (b ∷ rest)) (b ∷ rest)))) is
 
 frames-nil : (f : Format) (n at : ℕ) → frames_of f n at [] ≡ []
@@ -285,16 +290,16 @@ unfolding frames_of
 frames-nil f zero at = refl
 frames-nil f (suc n) at = refl
 
-fault-nil : (f : Format) (n at : ℕ) → fault_of f n at [] ≡ None
-unfolding fault_of
+fault-nil : (f : Format) (n at : ℕ) → first_video_fault f n at [] ≡ None
+unfolding first_video_fault
 fault-nil f n at = refl
 
-abbrev joined : Frame → List ℕ
+abbrev joined : SpelledFrame → List ℕ
 joined frame = frame.line ++ frame.planes
 
 -- these are the frames of the rest, this many at most
 record AreWhole (f : Format) (n : ℕ) (rest : List ℕ) (planes : List (List ℕ)) : Type 0 where
-  pub frames : List Frame
+  pub frames : List SpelledFrame
   pub text : rest ≡ flat_map joined frames
   pub of_frames : All (IsFrame f) frames
   pub of_planes : planes ≡ map (λ frame. frame.planes) frames
@@ -309,15 +314,15 @@ none_whole f n = record {
   count = omega arith;
 }
 
-no_fault_after : (r : Result (List ℕ) Y4mFault) (more : Option Y4mFault) → fault_from r more ≡ None → more ≡ None
+no_fault_after : (r : Result (List ℕ) Y4mFault) (more : Option Y4mFault) → video_fault_from r more ≡ None → more ≡ None
 no_fault_after (Ok planes) more none = none
 no_fault_after (Err fault) more none = absurd (cc)
 
 frames_split : (r : Result (List ℕ) Y4mFault) (f : Format) (n at : ℕ) (rest : List ℕ) (more : List (List ℕ))
-    (faults : Option Y4mFault) → frame_of f at rest ≡ r → fault_from r faults ≡ None
-    → AreWhole f n (drop (frame_size f rest) rest) more → AreWhole f (suc n) rest (frames_from r more)
+    (faults : Option Y4mFault) → frame_of f at rest ≡ r → video_fault_from r faults ≡ None
+    → AreWhole f n (drop (frame_size f rest) rest) more → AreWhole f (suc n) rest (frame_then r more)
 frames_split (Ok planes) f n at rest more faults is none after =
-    let frame : Frame = record { line = frame_line rest; planes = planes } in
+    let frame : SpelledFrame = record { line = frame_line rest; planes = planes } in
     record {
       frames = frame ∷ after.frames;
       text = frame_text f at rest planes is ∙ ap (λ (l : List ℕ). (frame_line rest ++ planes) ++ l) after.text;
@@ -327,21 +332,21 @@ frames_split (Ok planes) f n at rest more faults is none after =
     }
 frames_split (Err fault) f n at rest more faults is none after = absurd (cc none)
 
-frames_whole : (f : Format) (n at : ℕ) (rest : List ℕ) → fault_of f n at rest ≡ None
+frames_whole : (f : Format) (n at : ℕ) (rest : List ℕ) → first_video_fault f n at rest ≡ None
     → AreWhole f n rest (frames_of f n at rest)
-unfolding frames_of fault_of
+unfolding frames_of first_video_fault
 frames_whole f zero at [] none = none_whole f zero
 frames_whole f zero at (b ∷ rest) none = absurd (cc)
 frames_whole f (suc n) at [] none = none_whole f (suc n)
 frames_whole f (suc n) at (b ∷ rest) none =
     let size = frame_size f (b ∷ rest) in
-    let faults = fault_of f n (at + size) (drop size (b ∷ rest)) in
+    let faults = first_video_fault f n (at + size) (drop size (b ∷ rest)) in
     frames_split (frame_of f at (b ∷ rest)) f n at (b ∷ rest) (frames_of f n (at + size) (drop size (b ∷ rest))) faults
     refl none
     (frames_whole f n (at + size) (drop size (b ∷ rest)) (no_fault_after (frame_of f at (b ∷ rest)) faults none))
 
 -- a frame, and what follows
-module _ (f : Format) (at : ℕ) (x : Frame) (more : List ℕ) (is : IsFrame f x) where
+module _ (f : Format) (at : ℕ) (x : SpelledFrame) (more : List ℕ) (is : IsFrame f x) where
   there : 0 < length ((x.line ++ x.planes) ++ more)
   there = omega (
     arith,
@@ -360,15 +365,16 @@ module _ (f : Format) (at : ℕ) (x : Frame) (more : List ℕ) (is : IsFrame f x
       ∙ ap (λ (l : List ℕ). x.planes ∷ frames_of f n (at + frame_size f rest) l) (after_frame f at x more is)
       ∙ ap (λ (l : List (List ℕ)). x.planes ∷ l) (after (at + frame_size f rest))
 
-  one_good : (n : ℕ) → ((at : ℕ) → fault_of f n at more ≡ None) → fault_of f (suc n) at ((x.line ++ x.planes) ++ more)
+  one_good : (n : ℕ) → ((at : ℕ) → first_video_fault f n at more ≡ None)
+      → first_video_fault f (suc n) at ((x.line ++ x.planes) ++ more)
       ≡ None
   one_good n after =
       let rest = (x.line ++ x.planes) ++ more in
       fault_step f n at rest x.planes there (frame_found f at x more is)
-      ∙ ap (λ (l : List ℕ). fault_of f n (at + frame_size f rest) l) (after_frame f at x more is)
+      ∙ ap (λ (l : List ℕ). first_video_fault f n (at + frame_size f rest) l) (after_frame f at x more is)
       ∙ after (at + frame_size f rest)
 
-frames_found : (f : Format) (n : ℕ) (frames : List Frame) → All (IsFrame f) frames → length frames ≤ n → (at : ℕ)
+frames_found : (f : Format) (n : ℕ) (frames : List SpelledFrame) → All (IsFrame f) frames → length frames ≤ n → (at : ℕ)
     → frames_of f n at (flat_map joined frames) ≡ map (λ frame. frame.planes) frames
 frames_found f n [] all count at = frames-nil f n at
 frames_found f zero (x ∷ frames) all count at = absurd (omega arith)
@@ -376,8 +382,8 @@ frames_found f (suc n) (x ∷ frames) all count at =
     one_frame f at x (flat_map joined frames) (All-head (IsFrame f) x frames all) n (map (λ frame. frame.planes) frames)
     (frames_found f n frames (All-tail (IsFrame f) x frames all) (omega arith))
 
-fault_found : (f : Format) (n : ℕ) (frames : List Frame) → All (IsFrame f) frames → length frames ≤ n → (at : ℕ)
-    → fault_of f n at (flat_map joined frames) ≡ None
+fault_found : (f : Format) (n : ℕ) (frames : List SpelledFrame) → All (IsFrame f) frames → length frames ≤ n → (at : ℕ)
+    → first_video_fault f n at (flat_map joined frames) ≡ None
 fault_found f n [] all count at = fault-nil f n at
 fault_found f zero (x ∷ frames) all count at = absurd (omega arith)
 fault_found f (suc n) (x ∷ frames) all count at =
@@ -428,7 +434,7 @@ module _ (video : List ℕ) (f : Format) (planes : List (List ℕ)) (v : IsVideo
 
   pub video_found : video_fault video ≡ None
   video_found = by_head (Ok f) video format_found
-      ∙ ap (λ (l : List ℕ). fault_of f 1048576 (head_size video) l) body_found
+      ∙ ap (λ (l : List ℕ). first_video_fault f 1048576 (head_size video) l) body_found
       ∙ fault_found f 1048576 v.frames v.of_frames v.count (head_size video)
 
   pub planes_found : video_frames video ≡ planes

@@ -4,7 +4,7 @@ use Rattle.std.proofs.lemmas.Bool.Decides.{nat_tests}
 use Rattle.std.proofs.lemmas.List.Elements.{All-head, All-tail}
 use Rattle.std.proofs.Math.Seq.{take-append_seam}
 use Rattle.y4m.specs.Line.{Tag, is_gap, before_gap, tag_after, with_tag, tags_from, tags_of}
-use Rattle.y4m.specs.Spelled.{Word, IsWord, spaces, spaced}
+use Rattle.y4m.specs.Spelled.{Word, IsHeadWord, spaces, spaced}
 use Rattle.y4m.proofs.Tags.{tag_found}
 
 abbrev texts : List Tag → List (List ℕ)
@@ -54,7 +54,8 @@ gap_starts [] (suc n) = refl
 gap_starts (w ∷ words) n = refl
 
 -- a word after a space is a tag
-word_here : (at : ℕ) (word rest : List ℕ) → IsWord word → StartsWithGap rest → tag_after 32 (word ++ rest) ≡ Some word
+word_here : (at : ℕ) (word rest : List ℕ) → IsHeadWord word → StartsWithGap rest → tag_after 32 (word ++ rest)
+    ≡ Some word
 word_here at word rest is gap =
     let size : length word ≡ length (before_gap (word ++ rest)) = ap (λ (l : List ℕ). length l)
     (sym (before_gap-append word rest is.gapless gap)) in
@@ -79,7 +80,7 @@ passed (b ∷ bytes) rest found all after at before other =
     ∙ passed bytes rest found (All-tail Gapless b bytes all) after (at + 1) b
     (gapless_other b (All-head Gapless b bytes all))
 
-word_found : (word rest : List ℕ) (found : List (List ℕ)) → IsWord word → StartsWithGap rest
+word_found : (word rest : List ℕ) (found : List (List ℕ)) → IsHeadWord word → StartsWithGap rest
     → ((at before : ℕ) → texts (tags_from at before rest) ≡ found) → (at : ℕ) → texts (tags_from at 32 (word ++ rest))
     ≡ word ∷ found
 word_found [] rest found is gap after at = absurd (omega (arith, is.some))
@@ -100,7 +101,7 @@ end_passed zero at before = ap texts (pass_gap at before 10 [] refl)
 end_passed (suc n) at before = ap texts (pass_gap at before 32 (spaces n ++ 10 ∷ []) refl) ∙ end_passed n (at + 1) 32
 
 abbrev Good : Word → Type 0
-Good w = IsWord w.text
+Good w = IsHeadWord w.text
 
 words_found : (words : List Word) (n : ℕ) → All Good words → (at before : ℕ)
     → texts (tags_from at before (spaced words n ++ 10 ∷ [])) ≡ map (λ w. w.text) words
@@ -117,7 +118,7 @@ words_found (w ∷ words) n all at before =
     (words_found words n (All-tail Good w words all)))
     (at + 1)
 
-pub tags_found : (word : List ℕ) (words : List Word) (n : ℕ) → IsWord word → All Good words
+pub tags_found : (word : List ℕ) (words : List Word) (n : ℕ) → IsHeadWord word → All Good words
     → texts (tags_of (word ++ spaced words n ++ 10 ∷ [])) ≡ map (λ w. w.text) words
 tags_found word words n is all =
     let other : 0 ≢ 32 = λ e. omega (arith, e) in

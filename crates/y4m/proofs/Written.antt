@@ -11,10 +11,10 @@ use Rattle.h263_planes.specs.Picture.{Picture}
 use Rattle.h263_planes.specs.Samples.{IsWhole, bytes_of}
 use Rattle.y4m.specs.Line.{tags_of}
 use Rattle.y4m.specs.Text.{head_text, mark_text, frame_text}
-use Rattle.y4m.specs.Spelled.{IsLine, IsHead, Frame, IsFrame, IsVideo}
+use Rattle.y4m.specs.Spelled.{IsTextLine, IsHead, SpelledFrame, IsFrame, IsVideo}
 use Rattle.y4m.proofs.Videos.{free, tags_accepted}
 
-head_spelled : (f : Format) → IsLine (codes "YUV4MPEG2") (head_text f)
+head_spelled : (f : Format) → IsTextLine (codes "YUV4MPEG2") (head_text f)
 head_spelled SubQcif = let tail = codes " W128 H96 F30000:1001 Ip C420jpeg" in
     record { tail = tail; text = refl; apart = refl; one = free tail refl; short = omega arith }
 head_spelled Qcif = let tail = codes " W176 H144 F30000:1001 Ip C420jpeg" in
@@ -39,7 +39,7 @@ head_written Cif = record {
   sized = refl;
 }
 
-mark_spelled : (mark : Mark) → IsLine (codes "FRAME") (mark_text mark)
+mark_spelled : (mark : Mark) → IsTextLine (codes "FRAME") (mark_text mark)
 mark_spelled Exact = let tail = codes " XEXACT" in record {
   tail = tail;
   text = refl;
@@ -62,7 +62,7 @@ mark_spelled Held = let tail = codes " XHELD" in record {
   short = omega arith;
 }
 
-abbrev frame_with : Mark × Picture → Frame
+abbrev frame_with : Mark × Picture → SpelledFrame
 frame_with s = record { line = mark_text s.0; planes = bytes_of s.1 }
 
 module _ (f : Format) (size : (p : Picture) → IsWhole p → length (bytes_of p) ≡ size_of_picture p.format) where

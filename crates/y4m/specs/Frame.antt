@@ -4,7 +4,7 @@ use Rattle.h263_types.specs.declared.format.Format.{Format}
 use Rattle.h263_types.specs.Sizes.{size_of_picture}
 use Rattle.y4m.specs.declared.fault.Y4mFault.{Y4mFault}
 use Rattle.y4m.specs.declared.fault.Y4mFault.TheVariants.{NotY4m, ShortFrame, TooMany}
-use Rattle.y4m.specs.Line.{agreement, line_within, is_whole}
+use Rattle.y4m.specs.Line.{agreement, line_within, is_line_whole}
 
 -- the frame's line; where it isn't whole, byte 256 is the last that is looked at
 abbrev pub frame_line : List ℕ → List ℕ
@@ -18,7 +18,7 @@ frame_size f rest = length (frame_line rest) + size_of_picture f
 abbrev pub line_stop : List ℕ → Option ℕ
 line_stop line =
     if nat_lt (agreement (codes "FRAME") line) 6 then Some (agreement (codes "FRAME") line)
-    else if is_whole line then None else Some (min (length line) 256)
+    else if is_line_whole line then None else Some (min (length line) 256)
 
 -- the fault of a line that can't go on: a short frame where the input ends
 abbrev pub stop_fault : ℕ → ℕ → ℕ → Y4mFault

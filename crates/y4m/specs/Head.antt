@@ -5,15 +5,15 @@ use Rattle.h263_types.specs.declared.format.Format.{Format}
 use Rattle.h263_types.specs.declared.format.Format.TheVariants.{SubQcif, Qcif, Cif}
 use Rattle.y4m.specs.declared.fault.Y4mFault.{Y4mFault}
 use Rattle.y4m.specs.declared.fault.Y4mFault.TheVariants.{NotY4m, Size, Interlaced, Colour}
-use Rattle.y4m.specs.Line.{Tag, agreement, line_within, is_whole, tags_of}
+use Rattle.y4m.specs.Line.{Tag, agreement, line_within, is_line_whole, tags_of}
 
 -- the width and the height that a tag gives
-abbrev pub width_in : List ℕ → Option ℕ
-width_in tag = if bytes_eq tag (codes "W128") then Some 128 else if bytes_eq tag (codes "W176")
+abbrev pub width_tagged : List ℕ → Option ℕ
+width_tagged tag = if bytes_eq tag (codes "W128") then Some 128 else if bytes_eq tag (codes "W176")
     then Some 176 else if bytes_eq tag (codes "W352") then Some 352 else None
 
-abbrev pub height_in : List ℕ → Option ℕ
-height_in tag = if bytes_eq tag (codes "H96") then Some 96 else if bytes_eq tag (codes "H144")
+abbrev pub height_tagged : List ℕ → Option ℕ
+height_tagged tag = if bytes_eq tag (codes "H96") then Some 96 else if bytes_eq tag (codes "H144")
     then Some 144 else if bytes_eq tag (codes "H288") then Some 288 else None
 
 -- progressive, or not known
@@ -28,8 +28,8 @@ is_quarter tag = bytes_eq tag (codes "C420") || bytes_eq tag (codes "C420jpeg")
 -- the fault of a tag, at its letter: the tags of W, H, I and C are of the forms above
 abbrev pub tag_fault : Tag → Option Y4mFault
 tag_fault tag =
-    if slice_index tag.text 0 == 87 then (if is_some (width_in tag.text) then None else Some (Size tag.at))
-    else if slice_index tag.text 0 == 72 then (if is_some (height_in tag.text) then None else Some (Size tag.at))
+    if slice_index tag.text 0 == 87 then (if is_some (width_tagged tag.text) then None else Some (Size tag.at))
+    else if slice_index tag.text 0 == 72 then (if is_some (height_tagged tag.text) then None else Some (Size tag.at))
     else if slice_index tag.text 0 == 73 then (if is_progressive tag.text then None else Some (Interlaced tag.at))
     else if slice_index tag.text 0 == 67 then (if is_quarter tag.text then None else Some (Colour tag.at))
     else None
@@ -59,23 +59,23 @@ format_with (Some w) None = None
 
 -- the format by the last W and the last H
 abbrev pub format_in : List Tag → Option Format
-format_in tags = format_with (last_in width_in tags) (last_in height_in tags)
+format_in tags = format_with (last_in width_tagged tags) (last_in height_tagged tags)
 
 -- a format, or a fault of its size at a place
-abbrev pub sized : Option Format → ℕ → Result Format Y4mFault
-sized (Some format) at = Ok format
-sized None at = Err (Size at)
+abbrev pub format_sized : Option Format → ℕ → Result Format Y4mFault
+format_sized (Some format) at = Ok format
+format_sized None at = Err (Size at)
 
-abbrev pub unless : Option Y4mFault → Result Format Y4mFault → Result Format Y4mFault
-unless None more = more
-unless (Some fault) more = Err fault
+abbrev pub format_unless : Option Y4mFault → Result Format Y4mFault → Result Format Y4mFault
+format_unless None more = more
+format_unless (Some fault) more = Err fault
 
 -- the format that a head's line gives, or its first fault: the word, then the tags in their order, then the newline
 unfoldable pub format_of_line : List ℕ → Result Format Y4mFault
 format_of_line line =
     if nat_lt (agreement (codes "YUV4MPEG2") line) 10 then Err (NotY4m (agreement (codes "YUV4MPEG2") line))
-    else unless (tags_fault (tags_of line)) (if is_whole line
-    then sized (format_in (tags_of line)) (length line - 1) else Err (NotY4m (length line)))
+    else format_unless (tags_fault (tags_of line)) (if is_line_whole line
+    then format_sized (format_in (tags_of line)) (length line - 1) else Err (NotY4m (length line)))
 
 -- the head's line: no byte after the first 256 is looked at
 abbrev pub head_line : List ℕ → List ℕ

@@ -16,16 +16,13 @@ abbrev pub through_newline : List ℕ → List ℕ
 through_newline [] = []
 through_newline (b ∷ bytes) = b ∷ (if b == 10 then [] else through_newline bytes)
 
-abbrev pub NoNewline : List ℕ → Type 0
-NoNewline bytes = All (λ b. b ≢ 10) bytes
-
 -- what there is of a line among the first n bytes
 abbrev pub line_within : ℕ → List ℕ → List ℕ
 line_within n bytes = through_newline (take n bytes)
 
 -- a line that ends with its newline, 256 bytes at most
-abbrev pub is_whole : List ℕ → Bool
-is_whole line = nat_le (length line) 256 && slice_index line (length line - 1) == 10
+abbrev pub is_line_whole : List ℕ → Bool
+is_line_whole line = nat_le (length line) 256 && slice_index line (length line - 1) == 10
 
 -- a tag, and the place of its letter
 pub record Tag : Type 0 where

@@ -3,7 +3,7 @@ use Rattle.std.specs.Prelude.{ℕ, ◌≡◌, ◌+◌, ◌<◌, ◌≤◌, List,
 use Rattle.y4m.specs.declared.fault.Y4mFault.TheVariants.{ShortFrame}
 use Rattle.y4m.specs.declared.fault.VideoStop.{VideoStop}
 use Rattle.y4m.specs.declared.fault.VideoStop.TheVariants.{Read, Refused}
-use Rattle.y4m.specs.Line.{NoNewline}
+use Rattle.h263_outside.specs.Lines.{NoNewline}
 
 -- what the reading of planes says, which begin at this byte of the video, and what is left of it there
 abbrev pub PlanesGive : Result (Unit {0}) VideoStop → ℕ → List ℕ → List ℕ → Option (List ℕ) → Type 0
@@ -14,7 +14,7 @@ PlanesGive (Err Read) at rest out left = (k : ℕ) × (k < length out) × (left 
 
 -- a line was cut off by a read that failed: what was taken of the rest is shorter than a line may
 -- be, or has no newline
-pub record IsCut (least : ℕ) (rest : List ℕ) (left : Option (List ℕ)) : Type 0 where
+pub record IsVideoCut (least : ℕ) (rest : List ℕ) (left : Option (List ℕ)) : Type 0 where
   pub taken : ℕ
   pub gone : left ≡ Some (drop taken rest)
   pub free : least ≤ taken → NoNewline (take taken rest)

@@ -28,7 +28,7 @@ FrameGives (Err Read) old rest out new left =
     (k : ℕ) × (left ≡ Some (drop k rest)) × IsErr (frame_of old.format old.at (take k rest))
 
 -- how a call moves the reader: one frame less may come after a frame, and nothing changes without one
-abbrev pub Moves : Result Bool VideoStop → Y4mPlace → Y4mPlace → Type 0
-Moves (Ok true) old new = (new.format ≡ old.format) × (new.more + 1 ≡ old.more)
-Moves (Ok false) old new = new ≡ old
-Moves (Err stop) old new = new ≡ old
+abbrev pub MovesVideo : Result Bool VideoStop → Y4mPlace → Y4mPlace → Type 0
+MovesVideo (Ok true) old new = (new.format ≡ old.format) × (new.more + 1 ≡ old.more)
+MovesVideo (Ok false) old new = new ≡ old
+MovesVideo (Err stop) old new = new ≡ old

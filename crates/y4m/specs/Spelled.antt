@@ -3,7 +3,8 @@ use Rattle.std.specs.Prelude.{ℕ, zero, suc, ◌≡◌, ◌<◌, ◌≤◌, fal
 use Rattle.std.specs.List.{flat_map}
 use Rattle.h263_types.specs.declared.format.Format.{Format}
 use Rattle.h263_types.specs.Sizes.{size_of_picture}
-use Rattle.y4m.specs.Line.{NoNewline, is_gap, tags_of}
+use Rattle.h263_outside.specs.Lines.{NoNewline}
+use Rattle.y4m.specs.Line.{is_gap, tags_of}
 use Rattle.y4m.specs.Head.{tag_fault, format_in}
 use Rattle.y4m.specs.Video.{most_frames}
 
@@ -13,7 +14,7 @@ StandsApart [] = Unit {0}
 StandsApart (b ∷ tail) = b ≡ 32
 
 -- a whole line: a word, nothing or a space with anything after it, and a newline; 256 bytes at most
-pub record IsLine (word line : List ℕ) : Type 0 where
+pub record IsTextLine (word line : List ℕ) : Type 0 where
   pub tail : List ℕ
   pub text : line ≡ word ++ tail ++ 10 ∷ []
   pub apart : StandsApart tail
@@ -21,7 +22,7 @@ pub record IsLine (word line : List ℕ) : Type 0 where
   pub short : length line ≤ 256
 
 -- one byte at least, and no gap
-pub record IsWord (text : List ℕ) : Type 0 where
+pub record IsHeadWord (text : List ℕ) : Type 0 where
   pub some : 0 < length text
   pub gapless : All (λ b. is_gap b ≡ false) text
 
@@ -41,24 +42,24 @@ spaced (word ∷ words) n = 32 ∷ (spaces word.more ++ (word.text ++ spaced wor
 
 -- the line of a head: its tags are of the accepted forms, and the last W and the last H are those of the format
 pub record IsHead (line : List ℕ) (f : Format) : Type 0 where
-  pub spelled : IsLine (codes "YUV4MPEG2") line
+  pub spelled : IsTextLine (codes "YUV4MPEG2") line
   pub accepted : All (λ tag. tag_fault tag ≡ None) (tags_of line)
   pub sized : format_in (tags_of line) ≡ Some f
 
 -- a frame in its text
-pub record Frame : Type 0 where
+pub record SpelledFrame : Type 0 where
   pub line : List ℕ
   pub planes : List ℕ
 
 -- a frame of a format, with any tags
-pub record IsFrame (f : Format) (frame : Frame) : Type 0 where
-  pub spelled : IsLine (codes "FRAME") frame.line
+pub record IsFrame (f : Format) (frame : SpelledFrame) : Type 0 where
+  pub spelled : IsTextLine (codes "FRAME") frame.line
   pub size : length frame.planes ≡ size_of_picture f
 
 -- the text of a video in a format whose frames have these planes, 1,048,576 frames at most
 pub record IsVideo (video : List ℕ) (f : Format) (planes : List (List ℕ)) : Type 0 where
   pub head : List ℕ
-  pub frames : List Frame
+  pub frames : List SpelledFrame
   pub text : video ≡ head ++ flat_map (λ frame. frame.line ++ frame.planes) frames
   pub of_head : IsHead head f
   pub of_frames : All (IsFrame f) frames

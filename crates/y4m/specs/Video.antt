@@ -15,34 +15,34 @@ abbrev pub after_frame : Format → List ℕ → List ℕ
 after_frame f rest = drop (frame_size f rest) rest
 
 -- a frame, and those after it
-abbrev pub frames_from : Result (List ℕ) Y4mFault → List (List ℕ) → List (List ℕ)
-frames_from (Ok frame) more = frame ∷ more
-frames_from (Err fault) more = []
+abbrev pub frame_then : Result (List ℕ) Y4mFault → List (List ℕ) → List (List ℕ)
+frame_then (Ok frame) more = frame ∷ more
+frame_then (Err fault) more = []
 
-abbrev pub fault_from : Result (List ℕ) Y4mFault → Option Y4mFault → Option Y4mFault
-fault_from (Ok frame) more = more
-fault_from (Err fault) more = Some fault
+abbrev pub video_fault_from : Result (List ℕ) Y4mFault → Option Y4mFault → Option Y4mFault
+video_fault_from (Ok frame) more = more
+video_fault_from (Err fault) more = Some fault
 
 -- the frames of the rest, where this many may still come, up to the first fault
 unfoldable pub frames_of : Format → ℕ → ℕ → List ℕ → List (List ℕ)
 frames_of f zero at rest = []
 frames_of f (suc n) at [] = []
 frames_of f (suc n) at (b ∷ rest) =
-    frames_from (frame_of f at (b ∷ rest))
+    frame_then (frame_of f at (b ∷ rest))
     (frames_of f n (at + frame_size f (b ∷ rest)) (drop (frame_size f (b ∷ rest)) (b ∷ rest)))
 
 -- the first fault of the rest
-unfoldable pub fault_of : Format → ℕ → ℕ → List ℕ → Option Y4mFault
-fault_of f n at [] = None
-fault_of f zero at (b ∷ rest) = Some (TooMany at)
-fault_of f (suc n) at (b ∷ rest) =
-    fault_from (frame_of f at (b ∷ rest))
-    (fault_of f n (at + frame_size f (b ∷ rest)) (drop (frame_size f (b ∷ rest)) (b ∷ rest)))
+unfoldable pub first_video_fault : Format → ℕ → ℕ → List ℕ → Option Y4mFault
+first_video_fault f n at [] = None
+first_video_fault f zero at (b ∷ rest) = Some (TooMany at)
+first_video_fault f (suc n) at (b ∷ rest) =
+    video_fault_from (frame_of f at (b ∷ rest))
+    (first_video_fault f n (at + frame_size f (b ∷ rest)) (drop (frame_size f (b ∷ rest)) (b ∷ rest)))
 
 -- after a head
 abbrev pub fault_after_head : Result Format Y4mFault → ℕ → List ℕ → Option Y4mFault
 fault_after_head (Err fault) at body = Some fault
-fault_after_head (Ok f) at body = fault_of f most_frames at body
+fault_after_head (Ok f) at body = first_video_fault f most_frames at body
 
 abbrev pub frames_after_head : Result Format Y4mFault → ℕ → List ℕ → List (List ℕ)
 frames_after_head (Err fault) at body = []

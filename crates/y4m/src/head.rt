@@ -1,7 +1,7 @@
 //! The head's line: its word, its tags and the format that they give.
 ghost use Rattle.std.specs.Prelude.{◌≡◌, ◌<◌, ◌≤◌, ◌^◌, length, MatchResult, MatchOption, None, Some, Ok, Err};
 ghost use Rattle.h263_types.specs.declared.format.Format.{Format};
-ghost use Rattle.y4m.specs.Head.{width_in, height_in, is_progressive, is_quarter, tag_fault, tags_fault, format_with, last_in, or_else, format_of_line};
+ghost use Rattle.y4m.specs.Head.{width_tagged, height_tagged, is_progressive, is_quarter, tag_fault, tags_fault, format_with, last_in, or_else, format_of_line};
 ghost use Rattle.y4m.specs.Line.{tags_of};
 
 use crate::Y4mFault;
@@ -15,7 +15,7 @@ const SIGNATURE: &[u8] = b"YUV4MPEG2";
 pub const LEAST_HEAD: usize = 10;
 
 fn width_in(tag: &[u8]) -> Option<u32>
-    ensures { result ≡ width_in tag.now }
+    ensures { result ≡ width_tagged tag.now }
 {
     match tag {
         b"W128" => Some(128),
@@ -26,7 +26,7 @@ fn width_in(tag: &[u8]) -> Option<u32>
 }
 
 fn height_in(tag: &[u8]) -> Option<u32>
-    ensures { result ≡ height_in tag.now }
+    ensures { result ≡ height_tagged tag.now }
 {
     match tag {
         b"H96" => Some(96),
@@ -81,8 +81,8 @@ struct Sizes {
 impl Sizes {
     // Takes what a tag says of the size.
     fn note(&mut self, tag: &[u8])
-        ensures width { self.new.width ≡ or_else (width_in tag.now) self.old.width }
-        ensures height { self.new.height ≡ or_else (height_in tag.now) self.old.height }
+        ensures width { self.new.width ≡ or_else (width_tagged tag.now) self.old.width }
+        ensures height { self.new.height ≡ or_else (height_tagged tag.now) self.old.height }
     {
         self.width = width_in(tag).or(self.width);
         self.height = height_in(tag).or(self.height);
@@ -106,9 +106,9 @@ fn read_tags(line: &[u8]) -> Result<Sizes, Y4mFault>
     ensures ok { MatchResult result (λ _. tags_fault (tags_of line.now) ≡ None) (λ fault.
         tags_fault (tags_of line.now) ≡ Some fault) }
     ensures width { MatchResult result
-        (λ sizes. sizes.width ≡ last_in width_in (tags_of line.now)) (λ _. Unit {0}) }
+        (λ sizes. sizes.width ≡ last_in width_tagged (tags_of line.now)) (λ _. Unit {0}) }
     ensures height { MatchResult result
-        (λ sizes. sizes.height ≡ last_in height_in (tags_of line.now)) (λ _. Unit {0}) }
+        (λ sizes. sizes.height ≡ last_in height_tagged (tags_of line.now)) (λ _. Unit {0}) }
 {
     let mut sizes = Sizes {
         width: None,

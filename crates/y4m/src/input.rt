@@ -4,7 +4,7 @@ ghost use Rattle.h263_outside.specs.Desk.{FillsFront, Rose, OnlyReads};
 ghost use Rattle.h263_outside.specs.declared.desk.Role.{Role};
 ghost use Rattle.h263_outside.specs.declared.desk.Role.TheVariants.{Video};
 ghost use Rattle.y4m.specs.Line.{line_within};
-ghost use Rattle.y4m.specs.Planes.{PlanesGive, IsCut};
+ghost use Rattle.y4m.specs.Planes.{PlanesGive, IsVideoCut};
 
 use crate::{VideoStop, Y4mFault};
 use h263_outside::{Desk, Role, laws as outside_laws, read_full};
@@ -65,7 +65,7 @@ fn read_rest<D: Desk>(desk: &mut D, line: &mut [u8]) -> Result<usize, VideoStop>
         → IfOk result (λ k. (take k line.new ≡ line_within (length line.old) left)
         × ((D.outside desk.new).left Video ≡ Some (drop k left))) }
     ensures cut { (left : List ℕ) → (D.outside desk.old).left Video ≡ Some left
-        → OnErr result (IsCut 0 left ((D.outside desk.new).left Video)) }
+        → OnErr result (IsVideoCut 0 left ((D.outside desk.new).left Video)) }
     ensures err { IfErr result (λ stop. stop ≡ VideoStop.Read) }
     ensures cause { OnErr result
         (Rose (D.outside desk.old).faults.read (D.outside desk.new).faults.read) }
@@ -107,7 +107,7 @@ pub fn read_line<D: Desk>(desk: &mut D, least: usize, line: &mut [u8]) -> Result
         → IfOk result (λ k. (take k line.new ≡ line_within (length line.old) left)
         × ((D.outside desk.new).left Video ≡ Some (drop (max k least) left))) }
     ensures cut { (left : List ℕ) → (D.outside desk.old).left Video ≡ Some left
-        → OnErr result (IsCut least left ((D.outside desk.new).left Video)) }
+        → OnErr result (IsVideoCut least left ((D.outside desk.new).left Video)) }
     ensures err { IfErr result (λ stop. stop ≡ VideoStop.Read) }
     ensures cause { OnErr result
         (Rose (D.outside desk.old).faults.read (D.outside desk.new).faults.read) }

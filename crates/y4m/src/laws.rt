@@ -10,7 +10,7 @@ ghost use Rattle.y4m.specs.Head.{head_of, head_size};
 ghost use Rattle.y4m.specs.Video.{most_frames, video_fault, video_frames};
 ghost use Rattle.y4m.specs.Frame.{frame_of, frame_size};
 ghost use Rattle.y4m.specs.Line.{tags_of};
-ghost use Rattle.y4m.specs.Spelled.{IsVideo, Word, IsWord, spaced};
+ghost use Rattle.y4m.specs.Spelled.{IsVideo, Word, IsHeadWord, spaced};
 ghost use Rattle.y4m.specs.declared.fault.Y4mFault.TheVariants.{NotY4m, ShortFrame};
 ghost use Rattle.y4m.specs.Begun.{BeginsVideo, BeginsFrame};
 ghost use Rattle.y4m.specs.Text.{head_text, frame_text};
@@ -48,7 +48,7 @@ pub fn written_is_a_video()
 /// The tags of a line are its words after the first one, in their order.
 pub fn tags_are_words()
     ensures { (word : List ℕ) (words : List Word) (n : ℕ)
-        → IsWord word → All (λ w. IsWord w.text) words → map
+        → IsHeadWord word → All (λ w. IsHeadWord w.text) words → map
         (λ tag. tag.text) (tags_of (word ++ spaced words n ++ 10 ∷ [])) ≡ map (λ w. w.text) words }
 {}
 

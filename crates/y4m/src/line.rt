@@ -1,6 +1,6 @@
 //! Lines: the words that they begin with, their tags and their newline.
 ghost use Rattle.std.specs.Prelude.{◌≡◌, ◌<◌, ◌≤◌, ◌+◌, ◌-◌, ◌==◌, length, drop, take, slice_index, MatchOption, None, Some};
-ghost use Rattle.y4m.specs.Line.{is_gap, agreement, is_whole, before_gap, tag_after};
+ghost use Rattle.y4m.specs.Line.{is_gap, agreement, is_line_whole, before_gap, tag_after};
 
 /// The most bytes of a line with its newline.
 pub const LONGEST_LINE: usize = 256;
@@ -31,7 +31,7 @@ pub fn agreed(word: &[u8], line: &[u8]) -> usize
 /// Whether the line ends with its newline, among its first 256 bytes.
 pub fn is_whole(line: &[u8]) -> bool
     requires { 0 < length line.now }
-    ensures { result ≡ is_whole line.now }
+    ensures { result ≡ is_line_whole line.now }
 {
     line.len() <= LONGEST_LINE && line[line.len() - 1] == b'\n'
 }

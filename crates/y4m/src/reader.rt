@@ -39,7 +39,7 @@ impl Y4mReader {
     ghost use Rattle.h263_outside.specs.Desk.{Rose, OnlyReads};
     ghost use Rattle.h263_outside.specs.declared.desk.Role.{Role};
     ghost use Rattle.h263_outside.specs.declared.desk.Role.TheVariants.{Video};
-    ghost use Rattle.y4m.specs.Reader.{HeadGives, FrameGives, Moves};
+    ghost use Rattle.y4m.specs.Reader.{HeadGives, FrameGives, MovesVideo};
     ghost use Rattle.y4m.specs.Video.{most_frames};
 
     /// Reads the head's line, up to its newline.
@@ -81,7 +81,7 @@ impl Y4mReader {
         requires size { length out.old ≡ size_of_picture self.old.format }
         ensures gives { (rest : List ℕ) → (D.outside desk.old).left Video ≡ Some rest
             → FrameGives result self.old rest out.new self.new ((D.outside desk.new).left Video) }
-        ensures moves { Moves result self.old self.new }
+        ensures moves { MovesVideo result self.old self.new }
         ensures cause { IsErrOf result VideoStop.Read
             → Rose (D.outside desk.old).faults.read (D.outside desk.new).faults.read }
         ensures others { (r : Role)

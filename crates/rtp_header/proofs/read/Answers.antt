@@ -8,7 +8,7 @@ use Rattle.h263_bits.specs.Syntax.{reading}
 use Rattle.rtp_header.specs.declared.rtp.Rtp.{Rtp}
 use Rattle.rtp_header.specs.Text.{Head, head, after_fixed, from_byte, IsRtp}
 use Rattle.rtp_header.specs.Faults.{rtp_in, rtp_fault, with_head, short_of, with_payload, end_of, payload_end_of}
-use Rattle.rtp_header.specs.Written.{IsWithin}
+use Rattle.rtp_header.specs.Written.{IsPayloadWithin}
 use Rattle.rtp_header.proofs.Exact.{read_text, text_read, text_within}
 use Rattle.rtp_header.proofs.Heads.{head_is, head_of, head_short}
 use Rattle.rtp_header.proofs.read.Goals as goal
@@ -28,7 +28,7 @@ every : (bytes : List ℕ) (r : Result Rtp Fault) → r ≡ rtp_in bytes → rec
   only : (x : Rtp) → IsRtp x bytes → r ≡ Ok x;
   fault : first_fault r ≡ rtp_fault bytes;
   exact : r ≡ rtp_in bytes;
-  range : IfOk r (λ x. IsWithin x bytes);
+  range : IfOk r (λ x. IsPayloadWithin x bytes);
 }
 every bytes (Ok x) e =
     let text = read_text x bytes (sym e) in

@@ -1,16 +1,16 @@
 use Rattle.std.proofs.Common.{◌≡◌, ℕ, ◌++◌, List, ◌/◌, ◌%◌, ◌^◌, ◌<◌, [], ◌∷◌, Bool, Some, None, sym, ap, ◌∙◌}
 use Rattle.h263_bits.specs.Bits.{bits_of, spelled}
 use Rattle.back_messages.specs.declared.message.Message.{Message}
-use Rattle.back_messages.specs.Text.{first_text, flags_text, message_text, marks_of}
+use Rattle.back_messages.specs.Text.{first_text, flags_text, message_text, message_marks}
 use Rattle.back_messages.proofs.Texts.{three_bytes, five_bytes, text_short, text_long, text_read}
 use Rattle.back_messages.proofs.writing.write.Goals as goal
 
-short : (m : Message) (n : ℕ) → n < 2 ^ 24 → spelled 24 n ≡ first_text m → marks_of m ≡ None
+short : (m : Message) (n : ℕ) → n < 2 ^ 24 → spelled 24 n ≡ first_text m → message_marks m ≡ None
     → bits_of (n / 65536 ∷ n / 256 % 256 ∷ n % 256 ∷ []) ≡ message_text m
 short m n small text none = three_bytes n small ∙ text ∙ sym (text_short m none)
 
 long : (m : Message) (n k marks : ℕ) → n < 2 ^ 24 → k < 2 ^ 16 → spelled 24 n ≡ first_text m
-    → spelled 16 k ≡ flags_text (Some marks) → marks_of m ≡ Some marks
+    → spelled 16 k ≡ flags_text (Some marks) → message_marks m ≡ Some marks
     → bits_of (n / 65536 ∷ n / 256 % 256 ∷ n % 256 ∷ k / 256 ∷ k % 256 ∷ []) ≡ message_text m
 long m n k marks small low text flags some =
     five_bytes n k small low ∙ ap (λ (t : List Bool). t ++ spelled 16 k) text

@@ -4,7 +4,7 @@ use Rattle.h263_bits.specs.Bits.{spelled}
 use Rattle.h263_bits.proofs.SyntaxLaws.{appends_none}
 use Rattle.h263_types.specs.Marks.{marks_of}
 use Rattle.block_layer.specs.Text.{inter_text}
-use Rattle.block_layer.specs.Step.{level_at}
+use Rattle.block_layer.specs.Step.{level_in_list}
 use Rattle.block_layer.proofs.Marks.{none_marked}
 use Rattle.block_layer.proofs.Steps.{none_inter}
 use Rattle.block_layer.proofs.Spelt.{size_is, inter_written}
@@ -17,7 +17,7 @@ nothing levels marks are zero = none_inter levels (sym (none_marked levels) ∙ 
 
 pub write_levels-requires-clause-levels : goal.write_levels-requires-clause-levels
 write_levels-requires-clause-levels c = record {
-  sizes = λ k after inside. size_is (level_at c.args.block.now.levels k)
+  sizes = λ k after inside. size_is (level_in_list c.args.block.now.levels k)
       (c.requires.block.levels k inside);
 }
 

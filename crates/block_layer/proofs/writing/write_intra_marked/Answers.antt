@@ -1,13 +1,13 @@
 use Rattle.std.proofs.Common.{◌∙◌, Bool, List, length, ap, subst, arith}
 use Rattle.h263_bits.specs.Written.{Appends}
-use Rattle.block_layer.specs.Step.{level_at}
+use Rattle.block_layer.specs.Step.{level_in_list}
 use Rattle.block_layer.proofs.Steps.{intra_length, intra_is, coded_is}
 use Rattle.block_layer.proofs.Spelt.{size_is, intra_written}
 use Rattle.block_layer.proofs.writing.write_intra_marked.Goals as goal
 
 pub write_levels-requires-clause-levels : goal.write_levels-requires-clause-levels
 write_levels-requires-clause-levels c = record {
-  sizes = λ k after inside. size_is (level_at c.args.block.now.levels k)
+  sizes = λ k after inside. size_is (level_in_list c.args.block.now.levels k)
       (c.requires.block.levels k after inside);
 }
 

@@ -4,7 +4,7 @@ use lib.Count.{count_trailing_zeros}
 use Rattle.h263_bits.specs.Written.{written}
 use Rattle.h263_bits.proofs.SyntaxLaws.{length-spelled}
 use Rattle.code_tables.specs.Tables.{IsEvent}
-use Rattle.block_layer.specs.Step.{level_at}
+use Rattle.block_layer.specs.Step.{level_in_list}
 use Rattle.block_layer.specs.Waiting.{waiting_text}
 use Rattle.block_layer.proofs.Steps.{left_text, none_text, ended, text_is}
 use Rattle.block_layer.proofs.Written.{some_size}
@@ -48,7 +48,7 @@ event_number-number-requires c =
     let n = next e.place run e.left levels c.requires.whole e.invariant.marked c.events-test.true refl in
     subst IsEvent (sym c.event_at.ensures) (record {
       run = omega (arith, n.inside);
-      some = some_size (level_at levels (e.place + run)) n.some;
+      some = some_size (level_in_list levels (e.place + run)) n.some;
       level = c.requires.levels.sizes (e.place + run) (omega arith) (omega (arith, n.inside));
     })
 

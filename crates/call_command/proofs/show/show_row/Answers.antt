@@ -1,6 +1,6 @@
 use Rattle.std.proofs.lemmas.Result.{on_ok_weaker, on_err_weaker}
 use Rattle.h263_planes.specs.Lent.{picture}
-use Rattle.call_report.specs.View.{text_of}
+use Rattle.call_report.specs.View.{line_text}
 use Rattle.call_command.proofs.Writing.{on_err, first_front, both_gain, second_front}
 use Rattle.call_command.proofs.show.show_row.Goals as goal
 
@@ -17,7 +17,7 @@ returns-clause-ok g c =
     on_ok_weaker c.put_line.result
     (both_gain c.turn_laws.ensures c.args.row.now (picture c.args.picture)
     (outside c.args.desk.now).written (outside c.put_shown.new.desk).written (outside c.put_line.new.desk).written
-    (text_of c.picture_line-line.result) c.picture_line-line.ensures c.in_ok-put_shown.ensures.ok)
+    (line_text c.picture_line-line.result) c.picture_line-line.ensures c.in_ok-put_shown.ensures.ok)
     c.put_line.ensures.ok
 
 pub returns-clause-err : goal.returns-clause-err
@@ -26,5 +26,5 @@ returns-clause-err g c =
     on_err_weaker c.put_line.result
     (second_front c.turn_laws.ensures c.args.row.now (picture c.args.picture)
     (outside c.args.desk.now).written (outside c.put_shown.new.desk).written (outside c.put_line.new.desk).written
-    (text_of c.picture_line-line.result) c.picture_line-line.ensures c.in_ok-put_shown.ensures.ok)
+    (line_text c.picture_line-line.result) c.picture_line-line.ensures c.in_ok-put_shown.ensures.ok)
     c.put_line.ensures.err

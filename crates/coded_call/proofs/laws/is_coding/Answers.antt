@@ -19,7 +19,7 @@ use Rattle.coded_call.specs.Sent.{AreSent, IsSentAt}
 use Rattle.call_model.specs.Coding as call
 use Rattle.call_decoding.specs.Styles.{Style, header_from}
 use Rattle.call_encoding.specs.Encoding.{encoding}
-use Rattle.call_encoding.specs.Frames.{header_in, in_format, kind_of}
+use Rattle.call_encoding.specs.Frames.{styled_header, in_format, kind_of}
 use Rattle.receiver_end.specs.Decoding.{with_piece}
 use Rattle.coded_call.proofs.Sent.{has_reference, header_back}
 use Rattle.coded_call.proofs.laws.is_coding.Goals as goal
@@ -33,7 +33,7 @@ returns c p in_range = record {
       let frame = in_format p.format chosen.frame.picture in
       let reference = chosen.reference in
       let h = header_from header in
-      let g = header_in p.clock style in
+      let g = styled_header p.clock style in
       let kind : style.kind ≡ kind_of predicted = ap (λ (s : Style). s.kind) chosen.style_is in
       let ranged : IsHeader h =
       c.header_in_range.ensures p chosen.frame.messages predicted chosen.depth chosen.quant header

@@ -3,13 +3,13 @@ use Rattle.std.proofs.lemmas.List.{length-map}
 use Rattle.clap.specs.Words.{app_of}
 use Rattle.clap.specs.Simple.{app_of_fields}
 use Rattle.command_words.specs.Clap.{option_rule, place_rule, switch_rule, texts, with_rules}
-use Rattle.command_words.specs.View.{row_of}
+use Rattle.command_words.specs.View.{form_row}
 use Rattle.command_words.proofs.Parsing.{finds, refuses_words, simple_app, start, started, stopped_by}
 use Rattle.command_words.proofs.simple.parse.Goals as goal
 
 pub returns : goal.returns
 returns c =
-    let row = row_of c.args.form in
+    let row = form_row c.args.form in
     let new : app_of c.disable_help_flag-command.result
     ≡ start _ = started _ _ _ c.new.ensures.app (ap app_of_fields c.disable_help_flag-command.ensures) in
     let whole : app_of c.in_ok-command-3.command ≡ simple_app _ row.places row.options =
@@ -25,7 +25,7 @@ returns c =
 
 pub returns-in_err-try_get_matches_from : goal.returns-in_err-try_get_matches_from
 returns-in_err-try_get_matches_from c =
-    let row = row_of c.args.form in
+    let row = form_row c.args.form in
     let new : app_of c.disable_help_flag-command.result
     ≡ start _ = started _ _ _ c.new.ensures.app (ap app_of_fields c.disable_help_flag-command.ensures) in
     let whole : app_of c.in_ok-command-3.command ≡ simple_app _ row.places row.options =

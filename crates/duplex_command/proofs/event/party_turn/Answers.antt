@@ -8,7 +8,7 @@ use Rattle.call_model.specs.Refusals.{NotSaid}
 use Rattle.one_way.specs.declared.refusals.EventRefusal.TheVariants as told
 use Rattle.loss_trace.specs.declared.fault.TraceFault.TheVariants as faults
 use Rattle.duplex_call.specs.Duplex.{with_delivery, with_play}
-use Rattle.duplex_ends.specs.Pair.{MayHappenNow}
+use Rattle.duplex_ends.specs.Pair.{MayHappenToParty}
 use Rattle.duplex_ends.specs.Ways.{sides, with_whole}
 use Rattle.duplex_command.specs.declared.station.Station.{Station}
 use Rattle.duplex_command.specs.Duplex.{party_refusal}
@@ -65,7 +65,7 @@ returns-in_ok-allow-in-Send g c =
     let said = c.args.said in
     let x = said.party in
     let room = length c.args.frame.now in
-    let may : MayHappenNow own.ends far.ends Send = may_so c.check_send.result c.in_ok-allow-in-Send.ensures.ok
+    let may : MayHappenToParty own.ends far.ends Send = may_so c.check_send.result c.in_ok-allow-in-Send.ensures.ok
     (c.check_send.ensures.may far.ends c.requires.ready.ends) in
     frame_asked x own far c.send_frame.new.own said.line room said.event c.send_frame.result (outside c.args.desk.now)
     (outside c.send_frame.new.desk) c.in-Send.is

@@ -6,7 +6,7 @@ use Rattle.h263_types.specs.declared.params.Params.{Params}
 use Rattle.h263_planes.specs.Layout.{picture_of}
 use Rattle.h263_planes.specs.Lent.{picture}
 use Rattle.h263_planes.specs.Picture.{Picture}
-use Rattle.y4m.specs.Reader.{Moves}
+use Rattle.y4m.specs.Reader.{MovesVideo}
 use Rattle.loss_trace.specs.declared.fault.TraceFault.TheVariants.{NoFrame}
 use Rattle.call_report.specs.declared.status.Status.TheVariants.{TraceRefused, VideoRefused}
 use Rattle.call_report.specs.Status.{video_stop}
@@ -75,7 +75,7 @@ returns-then-not-branch g c = λ far room m.
 
 pub send-requires-clause-left : goal.send-requires-clause-left
 send-requires-clause-left g c =
-    let moves = subst (λ (b : Bool). Moves (Ok b) c.args.own.now.video c.frame.new.self) c.if-not-branch.false
+    let moves = subst (λ (b : Bool). MovesVideo (Ok b) c.args.own.now.video c.frame.new.self) c.if-not-branch.false
     c.in_ok-frame.ensures.moves in
     omega (arith, moves.1, c.requires.sent)
 
@@ -90,7 +90,7 @@ returns g c = λ far room m.
     let out = c.frame.new.out in
     let send = c.send in
     let ends = send.new.self in
-    let moves = subst (λ (b : Bool). Moves (Ok b) own.video c.frame.new.self) c.if-not-branch.false
+    let moves = subst (λ (b : Bool). MovesVideo (Ok b) own.video c.frame.new.self) c.if-not-branch.false
     c.in_ok-frame.ensures.moves in
     let own_new : Station = record { video = c.frame.new.self; ends = ends } in
     let shown = picture c.new-picture.result in

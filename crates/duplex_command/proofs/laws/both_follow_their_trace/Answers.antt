@@ -6,7 +6,7 @@ use Rattle.y4m.specs.Head.{head_of, head_size}
 use Rattle.call_report.specs.declared.status.Status.TheVariants.{VideoRefused, Video2Refused}
 use Rattle.call_decoding.specs.Rules.{rules_of}
 use Rattle.coded_call.specs.Coding.{coding}
-use Rattle.desk_program.specs.Run.{left_after, follow, run_of}
+use Rattle.desk_program.specs.Run.{left_after, follow, machine_run}
 use Rattle.duplex_call.specs.Duplex.{way}
 use Rattle.duplex_ends.specs.Ways.{sides}
 use Rattle.one_way.specs.Both.{steady}
@@ -38,7 +38,7 @@ pub returns-clause-no_first_head : goal.returns-clause-no_first_head
 returns-clause-no_first_head c = λ p inputs fault first.
     subst
     (λ (a : Result Format Y4mFault). IsRefusedAtOnce (VideoRefused fault) Video2 0
-    (follow (heads_step p inputs a (head_of (inputs Video2))) (λ next taken. run_of duplex_step 16777216 next
+    (follow (heads_step p inputs a (head_of (inputs Video2))) (λ next taken. machine_run duplex_step 16777216 next
     (left_after inputs taken))))
     (sym first)
     (record { turns = refl; because = refl; silent = λ role. refl; left = refl })
@@ -47,12 +47,12 @@ pub returns-clause-no_second_head : goal.returns-clause-no_second_head
 returns-clause-no_second_head c = λ p inputs f fault first second.
     subst
     (λ (a : Result Format Y4mFault). IsRefusedAtOnce (Video2Refused fault) Video (head_size (inputs Video))
-    (follow (heads_step p inputs a (head_of (inputs Video2))) (λ next taken. run_of duplex_step 16777216 next
+    (follow (heads_step p inputs a (head_of (inputs Video2))) (λ next taken. machine_run duplex_step 16777216 next
     (left_after inputs taken))))
     (sym first)
     (subst
     (λ (b : Result Format Y4mFault). IsRefusedAtOnce (Video2Refused fault) Video (head_size (inputs Video))
-    (follow (heads_step p inputs (Ok f) b) (λ next taken. run_of duplex_step 16777216 next
+    (follow (heads_step p inputs (Ok f) b) (λ next taken. machine_run duplex_step 16777216 next
     (left_after inputs taken))))
     (sym second)
     (record { turns = refl; because = refl; silent = λ role. refl; left = refl }))

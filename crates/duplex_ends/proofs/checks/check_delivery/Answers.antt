@@ -15,7 +15,7 @@ use Rattle.one_way.specs.declared.refusals.EventRefusal.{EventRefusal}
 use Rattle.one_way.specs.Refused.{IsAllowed, refusal_after}
 use Rattle.one_way.specs.Seen.{Seen, in_call}
 use Rattle.duplex_ends.specs.Bringing.{carried_in, first_far}
-use Rattle.duplex_ends.specs.Pair.{MayHappenNow}
+use Rattle.duplex_ends.specs.Pair.{MayHappenToParty}
 use Rattle.duplex_ends.specs.Ways.{call_by, call_in, sides}
 use Rattle.duplex_ends.proofs.Deliveries.{header_now}
 use Rattle.duplex_ends.proofs.Lists.{carried_placed}
@@ -69,7 +69,7 @@ returns-in-Ok-clause-refusal c = λ p x ways left place h.
 pub returns-in-Ok-clause-may : goal.returns-in-Ok-clause-may
 returns-in-Ok-clause-may c = λ place.
     let e = c.requires in
-    may_of (MayHappenNow c.args.own.now c.args.far.now (Deliver c.args.number place)) c.check_header.result
+    may_of (MayHappenToParty c.args.own.now c.args.far.now (Deliver c.args.number place)) c.check_header.result
     (Deliver c.args.number place)
     (refusal_of (sides e.params) 0 e.party (Deliver c.args.number place) e.ways)
     (returns-in-Ok-clause-refusal c e.params e.party e.ways 0 place e.holds)

@@ -8,7 +8,7 @@ use Rattle.duplex_call.specs.Duplex.{way}
 use Rattle.duplex_call.specs.Refused.{refusal_of}
 use Rattle.one_way.specs.Refused.{IsAllowed}
 use Rattle.one_way.specs.Seen.{Seen, in_call}
-use Rattle.duplex_ends.specs.Pair.{MayHappenNow}
+use Rattle.duplex_ends.specs.Pair.{MayHappenToParty}
 use Rattle.duplex_ends.specs.Ways.{call_in, sides}
 use Rattle.duplex_ends.proofs.Refusals.{any_play, may_of}
 use Rattle.duplex_ends.proofs.checks.check_play.Goals as goal
@@ -27,7 +27,7 @@ returns-clause-refusal c = λ p x far ways left h.
 
 pub returns-clause-may : goal.returns-clause-may
 returns-clause-may c = λ far e.
-    may_of (MayHappenNow c.args.own.now far Play) c.check_play.result Play
+    may_of (MayHappenToParty c.args.own.now far Play) c.check_play.result Play
     (refusal_of (sides e.params) 0 e.party Play e.ways)
     (returns-clause-refusal c e.params e.party far e.ways 0 e.holds)
     (λ none. record {

@@ -8,7 +8,7 @@ use Rattle.duplex_call.specs.Duplex.{way}
 use Rattle.duplex_call.specs.Refused.{refusal_of}
 use Rattle.one_way.specs.Refused.{IsAllowed}
 use Rattle.one_way.specs.Seen.{Seen}
-use Rattle.duplex_ends.specs.Pair.{MayHappenNow}
+use Rattle.duplex_ends.specs.Pair.{MayHappenToParty}
 use Rattle.duplex_ends.specs.Ways.{call_in, sides}
 use Rattle.duplex_ends.proofs.Refusals.{may_of}
 use Rattle.duplex_ends.proofs.checks.check_send.Goals as goal
@@ -26,7 +26,7 @@ returns-clause-refusal c = λ p x far ways h.
 pub returns-clause-may : goal.returns-clause-may
 returns-clause-may c = λ far e.
     let left = length (call_in e.params e.party e.ways).coded + 1 in
-    may_of (MayHappenNow c.args.own.now far Send) c.check_capture.result Send
+    may_of (MayHappenToParty c.args.own.now far Send) c.check_capture.result Send
     (refusal_of (sides e.params) left e.party Send e.ways)
     (returns-clause-refusal c e.params e.party far e.ways e.holds)
     (λ none. record {

@@ -8,7 +8,7 @@ use Rattle.duplex_call.specs.Duplex.{brought, other, way}
 use Rattle.one_way.specs.Both.{State, both_after, steady}
 use Rattle.one_way.specs.Way.{HoldsWay}
 use Rattle.duplex_ends.specs.Bringing.{AreOfClock, MayReturnAll, carried_in}
-use Rattle.duplex_ends.specs.Ways.{told_by}
+use Rattle.duplex_ends.specs.Ways.{carried_from}
 use Rattle.duplex_ends.proofs.Deliveries.{brings_all, brings_none, count_so, header_there, may_return}
 use Rattle.duplex_ends.proofs.Lists.{carried_placed}
 use Rattle.duplex_ends.proofs.Said.{numbered_fit}
@@ -50,7 +50,7 @@ bring_header-requires c =
     there.1) ∙ carried_placed messages (h.carries.few c.args.number)
     in
     let fit : AreOfClock (p (other x)).clock messages =
-    numbered_fit (p (other x)).clock (told_by (p (other x)) v) (slice_index_or w.carried c.args.number []) messages
+    numbered_fit (p (other x)).clock (carried_from (p (other x)) v) (slice_index_or w.carried c.args.number []) messages
     ((c.said_laws.ensures (p (other x)) (e.holds.in_range (other x))).fit v) (h.carries.each c.args.number)
     in
     subst (λ (l : List Carried). AreOfClock c.args.own.now.params.clock l) (sym is)

@@ -10,7 +10,7 @@ use Rattle.duplex_call.specs.Duplex.{WayRun, brings, brought, other, way, with_d
 use Rattle.duplex_call.specs.Waiting.{Waits}
 use Rattle.duplex_ends.specs.declared.party.PartyEnds.{PartyEnds}
 use Rattle.duplex_ends.specs.Bringing.{said_as}
-use Rattle.duplex_ends.specs.Ways.{sides, told_by}
+use Rattle.duplex_ends.specs.Ways.{sides, carried_from}
 use Rattle.duplex_ends.proofs.Agreeing.{agree}
 use Rattle.duplex_ends.proofs.Deliveries.{agrees, among, near_now, with_both}
 use Rattle.duplex_ends.proofs.Runs.{party_more, told_more, told_still}
@@ -43,16 +43,17 @@ returns-clause-holds c = λ p x ways left h may.
     let says = told.ensures.says P own.sender [] w.frames w.past one.done last in
     let before = agrees P Q (h.in_range x) calls nears own w v one left n j may.0 in
     let now = agree P (h.in_range x) calls nears own.way own.sender told.new.receiver next done in
-    let more : told_by P next ≡ told_by P w ++ said_as P.clock n told.result =
+    let more : carried_from P next ≡ carried_from P w ++ said_as P.clock n told.result =
     told_more P (c.said_laws.ensures P (h.in_range x)) w (Deliver n j) n told.result _ refl says before now in
-    let same : told_by Q back ≡ told_by Q v ++ [] = told_still Q v ks ∙ sym (append-nil (told_by Q v)) in
+    let same : carried_from Q back ≡ carried_from Q v ++ [] = told_still Q v ks ∙ sym (append-nil (carried_from Q v)) in
     let new_own : PartyEnds = record own { far_end = told.new.receiver } in
     let new_far : PartyEnds = record far { sender = c.bring_carried.new.sender; waiting = c.put_by.new.waiting } in
-    let waits : Waits own.waiting (drop w.loaded (told_by Q v) ++ []) =
-    subst (λ (l : List Carried). Waits own.waiting l) (sym (append-nil (drop w.loaded (told_by Q v)))) one.waits in
-    let said : Waits c.put_by.new.waiting (drop v.loaded (told_by P w) ++ said_as P.clock n told.result) =
-    subst (λ (q : Params). Waits c.put_by.new.waiting (drop v.loaded (told_by P w) ++ said_as q.clock n told.result))
-    one.params (c.put_by.ensures (drop v.loaded (told_by P w)) two.waits)
+    let waits : Waits own.waiting (drop w.loaded (carried_from Q v) ++ []) =
+    subst (λ (l : List Carried). Waits own.waiting l) (sym (append-nil (drop w.loaded (carried_from Q v)))) one.waits in
+    let said : Waits c.put_by.new.waiting (drop v.loaded (carried_from P w) ++ said_as P.clock n told.result) =
+    subst (λ (q : Params). Waits c.put_by.new.waiting (drop v.loaded (carried_from P w)
+    ++ said_as q.clock n told.result))
+    one.params (c.put_by.ensures (drop v.loaded (carried_from P w)) two.waits)
     in
     with_both p x new_own new_far ways next back h.in_range h.clock
     (party_more P Q own w v one new_own (Deliver n j ∷ w.past) back [] refl refl refl refl (omega (

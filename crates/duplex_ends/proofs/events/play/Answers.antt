@@ -7,13 +7,13 @@ use Rattle.h263_planes.specs.Picture.{Picture}
 use Rattle.call_encoding.specs.Frames.{Frame}
 use Rattle.call_model.specs.Coding.{Shown}
 use Rattle.call_model.specs.IdealCall.{Play}
-use Rattle.receiver_end.specs.Answers.{mark_of}
+use Rattle.receiver_end.specs.Answers.{mark_from}
 use Rattle.duplex_call.specs.declared.queue.Carried.{Carried}
 use Rattle.duplex_call.specs.Duplex.{WayRun, other, way, with_play}
 use Rattle.duplex_call.specs.Waiting.{Waits}
 use Rattle.duplex_ends.specs.declared.party.PartyEnds.{PartyEnds}
 use Rattle.duplex_ends.specs.Bringing.{said_as}
-use Rattle.duplex_ends.specs.Ways.{sides, told_by}
+use Rattle.duplex_ends.specs.Ways.{sides, carried_from}
 use Rattle.duplex_ends.proofs.Agreeing.{agree, plays}
 use Rattle.duplex_ends.proofs.Deliveries.{with_one}
 use Rattle.duplex_ends.proofs.Runs.{party_more, party_waits, told_more}
@@ -48,7 +48,7 @@ returns-clause-mark c = λ p x ways left h may.
     let now = agree P (h.in_range x) calls nears c.play-played.new.self own.sender c.play-played.new.receiver next done
     in
     c.play-played.ensures.mark P own.sender [] w.frames w.past h.own_holds.done
-    ∙ ap mark_of (first_mark _ _ _ _ now.plays)
+    ∙ ap mark_from (first_mark _ _ _ _ now.plays)
   where
     first_mark : (a b : Shown Picture) (l m : List (Shown Picture)) → a ∷ l ≡ b ∷ m → a.mark ≡ b.mark
     first_mark a b l m is = let same : a ≡ b = cc is in ap (λ (s : Shown Picture). s.mark) same
@@ -73,18 +73,19 @@ returns-clause-holds c = λ p x ways left h may.
     let before = agree P (h.in_range x) calls nears own.way own.sender own.far_end w one.done in
     let now = agree P (h.in_range x) calls nears told.new.self own.sender told.new.receiver next done in
     let n = own.far_end.played in
-    let more : told_by P next ≡ told_by P w ++ said_as P.clock n told.result.message =
+    let more : carried_from P next ≡ carried_from P w ++ said_as P.clock n told.result.message =
     told_more P (c.said_laws.ensures P (h.in_range x)) w Play n told.result.message _ refl says before now in
     let new_own : PartyEnds = record own { way = told.new.self; far_end = told.new.receiver } in
     let new_far : PartyEnds = record far { waiting = c.put_by.new.waiting } in
-    let waits : Waits own.waiting (drop w.loaded (told_by Q v) ++ []) =
-    subst (λ (l : List Carried). Waits own.waiting l) (sym (append-nil (drop w.loaded (told_by Q v)))) one.waits in
-    let said : Waits c.put_by.new.waiting (drop v.loaded (told_by P w) ++ said_as P.clock n told.result.message) =
-    subst (λ (k : ℕ). Waits c.put_by.new.waiting (drop v.loaded (told_by P w) ++ said_as P.clock k told.result.message))
+    let waits : Waits own.waiting (drop w.loaded (carried_from Q v) ++ []) =
+    subst (λ (l : List Carried). Waits own.waiting l) (sym (append-nil (drop w.loaded (carried_from Q v)))) one.waits in
+    let said : Waits c.put_by.new.waiting (drop v.loaded (carried_from P w) ++ said_as P.clock n told.result.message) =
+    subst (λ (k : ℕ). Waits c.put_by.new.waiting (drop v.loaded (carried_from P w)
+    ++ said_as P.clock k told.result.message))
     c.play-played.ensures.number
-    (subst (λ (q : Params). Waits c.put_by.new.waiting (drop v.loaded (told_by P w)
+    (subst (λ (q : Params). Waits c.put_by.new.waiting (drop v.loaded (carried_from P w)
     ++ said_as q.clock c.play-played.result.number told.result.message)) one.params
-    (c.put_by.ensures (drop v.loaded (told_by P w)) two.waits))
+    (c.put_by.ensures (drop v.loaded (carried_from P w)) two.waits))
     in
     let laws = c.pair_laws.ensures p in
     let sent = laws.sent x own far ways h in
@@ -96,7 +97,7 @@ returns-clause-holds c = λ p x ways left h may.
       told.ensures.counted,
       told.ensures.played,
       one.counted,
-    )) done (told.ensures.way.can own.sender one.can) (sym (append-nil (told_by Q v))) waits)
+    )) done (told.ensures.way.can own.sender one.can) (sym (append-nil (carried_from Q v))) waits)
     (party_waits Q P far v w two c.put_by.new.waiting next (said_as P.clock n told.result.message) more said)
 
 pub returns-clause-ready : goal.returns-clause-ready

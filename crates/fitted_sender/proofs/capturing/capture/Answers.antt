@@ -3,7 +3,7 @@ use Rattle.h263_types.specs.declared.params.Params.{Params}
 use Rattle.h263_planes.specs.Lent.{picture}
 use Rattle.call_encoding.specs.Frames.{Frame}
 use Rattle.rate_control.specs.declared.send_pace.SendPace.{SendPace}
-use Rattle.rate_control.specs.Pace.{first_of, quant_after_sizes, target_of}
+use Rattle.rate_control.specs.Pace.{first_quant, quant_after_sizes, target_of}
 use Rattle.sender_end.specs.State.{SenderState}
 use Rattle.sender_end.specs.Stands.{Describes, Holds, after_code, next_in}
 use Rattle.fitted_sender.specs.Aiming.{aim_after}
@@ -16,12 +16,12 @@ returns-clause-captured c run holds =
     let set = c.set_pace.new.self in
     let new = c.code-coded.new.self in
     let frame : Frame = record { picture = picture c.args.frame; messages = c.args.back.now } in
-    let paced = quant_after_sizes (target_of set.pace) (first_of set.pace) in
+    let paced = quant_after_sizes (target_of set.pace) (first_quant set.pace) in
     let same : set.params ≡ p = ap (λ (s : SenderState SendPace). s.params) c.set_pace.ensures.others in
     let pace : set.pace ≡ c.pace.result = ap (λ (s : SenderState SendPace). s.pace) c.set_pace.ensures.others in
     let kept = c.set_pace.ensures.holds run holds in
     is_captured p run c.args.aim.now c.kind_of_next-kind.result set.pace (c.kind_of_next-kind.ensures run holds)
-    (ap target_of pace ∙ c.pace.ensures.target) (ap first_of pace
+    (ap target_of pace ∙ c.pace.ensures.target) (ap first_quant pace
     ∙ c.pace.ensures.first) frame new c.coded.new.self c.code-coded.result
     (c.code-coded.ensures.params ∙ same)
     (subst (λ (q : Params). Holds new (after_code q paced frame run)) same (c.code-coded.ensures.holds run kept))

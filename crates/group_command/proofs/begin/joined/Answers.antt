@@ -1,6 +1,6 @@
 use Rattle.std.proofs.Common.{◌≡◌, ℕ, suc, ◌+◌, subst, ◌∙◌, arith}
 use Rattle.group_call.specs.Holding.{HoldsBroadcast}
-use Rattle.group_command.specs.Group.{joined_by}
+use Rattle.group_command.specs.Group.{after_joins}
 use Rattle.group_command.proofs.begin.joined.Goals as goal
 
 pub places-preserved : goal.places-preserved
@@ -12,8 +12,8 @@ places-preserved c =
       sent = c.join.ensures.sent ∙ before.sent;
       kept = c.join.ensures.kept ∙ before.kept;
       casting = c.join.ensures.ready before.casting;
-      holds = subst (λ (k : ℕ). HoldsBroadcast c.args.params.now c.join.new.self (joined_by k)) next
-          (c.join.ensures.holds c.args.params.now (joined_by c.places.place) before.holds);
+      holds = subst (λ (k : ℕ). HoldsBroadcast c.args.params.now c.join.new.self (after_joins k)) next
+          (c.join.ensures.holds c.args.params.now (after_joins c.places.place) before.holds);
     }
 
 pub returns-clause-params : goal.returns-clause-params
@@ -31,4 +31,4 @@ returns-clause-ready c = c.places.invariant.casting
 pub returns-clause-holds : goal.returns-clause-holds
 returns-clause-holds c =
     let all : c.places.place ≡ c.args.receivers = omega (arith, c.places-test.false, c.places.auto.place-end) in
-    subst (λ (k : ℕ). HoldsBroadcast c.args.params.now c.places.cast (joined_by k)) all c.places.invariant.holds
+    subst (λ (k : ℕ). HoldsBroadcast c.args.params.now c.places.cast (after_joins k)) all c.places.invariant.holds

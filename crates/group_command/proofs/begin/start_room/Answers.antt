@@ -1,5 +1,5 @@
 use Rattle.std.proofs.Common.{refl, rules}
-use Rattle.group_command.specs.Group.{joined_by}
+use Rattle.group_command.specs.Group.{after_joins}
 use Rattle.group_command.proofs.Starting.{none_coded}
 use Rattle.group_command.proofs.begin.start_room.Goals as goal
 
@@ -17,7 +17,7 @@ returns-in-Ok c =
       casting = cast.ready;
       viewing = viewers.viewing;
       cast = cast.holds;
-      views = viewers.holds (joined_by c.args.receivers) (none_coded c.args.receivers);
+      views = viewers.holds (after_joins c.args.receivers) (none_coded c.args.receivers);
       lines = c.new.ensures.lines;
       ended = c.new.ensures.ended;
       frame = search rules;

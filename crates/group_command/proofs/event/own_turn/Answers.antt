@@ -6,7 +6,7 @@ use Rattle.call_model.specs.JoinedRun.{SaidMessage}
 use Rattle.receiver_end.specs.State.{run_of}
 use Rattle.group_call.specs.Holding.{HoldsBroadcast}
 use Rattle.group_call.specs.Refused.{view_refusal}
-use Rattle.group_call.specs.Viewing.{packets_in}
+use Rattle.group_call.specs.Viewing.{coded_packets}
 use Rattle.group_command.specs.declared.line.OwnEvent.TheVariants as own
 use Rattle.group_command.specs.Group.{group_heard, played_texts}
 use Rattle.group_command.specs.Standing.{Watches}
@@ -41,7 +41,7 @@ returns-in_ok-allow-in-Packet-clause-gives g c = λ p run view half period cast 
         cast,
         record {
           holds = c.deliver.ensures.holds p run view cast among w.holds;
-          near = omega (arith, w.near, delivery_plays p (packets_in p run.coded n) n j view);
+          near = omega (arith, w.near, delivery_plays p (coded_packets p run.coded n) n j view);
         },
       ),
       c.turn_laws.ensures.no_text old old refl,
@@ -55,7 +55,7 @@ returns-in_ok-allow-in-All-clause-gives g c = λ p run view half period cast w.
     let none : view_refusal p run view (Deliver n 0) ≡ None = none_so c.check_number-in-All.result (Deliver n 0)
     _ c.in_ok-allow-in-All.ensures.ok (c.check_number-in-All.ensures.refusal p run view 0 half cast w.holds) in
     let among = is_cast p run view c.args.cast.now n 0 period w.near none in
-    let packets = packets_in p run.coded n in
+    let packets = coded_packets p run.coded n in
     of_event (Ok tt) said.line said.place p run view (λ run view. Watches p run c.deliver_all.new.self view)
     c.args.cast.now old old said.event (own.All n) c.in-All.is (
       none,

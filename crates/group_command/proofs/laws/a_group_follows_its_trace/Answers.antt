@@ -5,7 +5,7 @@ use Rattle.y4m.specs.declared.fault.Y4mFault.{Y4mFault}
 use Rattle.call_decoding.specs.Rules.{rules_of}
 use Rattle.call_decoding.specs.Samples.{pictures}
 use Rattle.call_encoding.specs.Encoding.{encoding}
-use Rattle.desk_program.specs.Run.{left_after, follow, run_of}
+use Rattle.desk_program.specs.Run.{left_after, follow, machine_run}
 use Rattle.group_command.specs.Group.{group_step, group_head_step}
 use Rattle.group_command.proofs.Followed.{follows}
 use Rattle.group_command.proofs.Starting.{in_format}
@@ -39,5 +39,5 @@ pub returns-clause-no_head : goal.returns-clause-no_head
 returns-clause-no_head c = λ t inputs fault is.
     ap
     (λ (r : Result Format Y4mFault). follow (group_head_step t (inputs Video) r)
-    (λ next taken. run_of group_step 16777216 next (left_after inputs taken)))
+    (λ next taken. machine_run group_step 16777216 next (left_after inputs taken)))
     is

@@ -10,7 +10,7 @@ use Rattle.h263_bits.specs.Syntax.{reading}
 use Rattle.h263_bits.proofs.SyntaxLaws.{IsMoved, moved, drop-window, sound, length-bits_of, length-window}
 use Rattle.h263_types.specs.declared.format.Format.{Format}
 use Rattle.rtp_header.specs.declared.rtp.Rtp.{Rtp}
-use Rattle.rtp_header.specs.Written.{IsWithin}
+use Rattle.rtp_header.specs.Written.{IsPayloadWithin}
 use Rattle.picture_header.specs.Laws.{HeaderLaws}
 use Rattle.h263_payload.specs.declared.payload.Opening.{Opening}
 use Rattle.h263_payload.specs.declared.payload.Payload.{Payload}
@@ -36,7 +36,7 @@ found : (format : Format) (bytes : List ℕ) (rtp : Rtp) (r : Result Payload Fau
 found format bytes rtp (Ok p) e = payload.read_text format p (payload_bits_of bytes rtp) (sym e)
 found format bytes rtp (Err f) e = tt
 
-range : (format : Format) (bytes : List ℕ) (rtp : Rtp) (r : Result Payload Fault) → IsWithin rtp bytes
+range : (format : Format) (bytes : List ℕ) (rtp : Rtp) (r : Result Payload Fault) → IsPayloadWithin rtp bytes
     → r ≡ payload_at format (payload_bits_of bytes rtp) → IfOk r (λ p. IsExtraHeader p.extra)
     → IfOk r (λ p. IsAfterHeader p rtp)
 range format bytes rtp (Ok p) w e extra =
@@ -52,7 +52,8 @@ range format bytes rtp (Ok p) w e extra =
 range format bytes rtp (Err f) w e extra = tt
 
 -- what is said of each return
-every : HeaderLaws → (format : Format) (bytes : List ℕ) (rtp : Rtp) (r : Result Payload Fault) → IsWithin rtp bytes
+every : HeaderLaws → (format : Format) (bytes : List ℕ) (rtp : Rtp) (r : Result Payload Fault)
+    → IsPayloadWithin rtp bytes
     → r ≡ payload_at format (payload_bits_of bytes rtp) → IfOk r (λ p. IsExtraHeader p.extra) → record {
       found : IfOk r (λ p. IsPayload format p (payload_bits_of bytes rtp));
       only : (p : Payload) → IsPayload format p (payload_bits_of bytes rtp) → r ≡ Ok p;

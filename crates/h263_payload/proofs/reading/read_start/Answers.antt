@@ -8,7 +8,7 @@ use Rattle.h263_bits.specs.declared.fault.FaultKind.TheVariants as faults
 use Rattle.h263_bits.specs.Reading.{number_at, ok}
 use Rattle.picture_header.specs.declared.header.Header.{Header}
 use Rattle.h263_payload.specs.declared.payload.Payload.{Payload}
-use Rattle.h263_payload.specs.Faults.{begun_as, begun_at, fault_at}
+use Rattle.h263_payload.specs.Faults.{begun_as, begun_at, payload_fault_at}
 use Rattle.h263_payload.proofs.reading.read_start.Goals as goal
 
 abbrev begun : Option Header → ℕ → Bool → Payload
@@ -16,13 +16,13 @@ begun extra at begins = record { extra = extra; begins = begins; from = at }
 
 -- a picture with an extra header, and a later slice without one
 unlike : (extra : Option Header) (at start : ℕ) → 2 ≤ start → ((start == 2) ≡ is_none extra → ⊥)
-    → begun_as extra at start ≡ fault_at (cond (start == 2) faults.ExtraHeader faults.NoExtraHeader) at
+    → begun_as extra at start ≡ payload_fault_at (cond (start == 2) faults.ExtraHeader faults.NoExtraHeader) at
 unlike extra at start high ne = rw (le-ltb start 2 high) (at_tests (start == 2) (is_none extra) ne)
   where
     at_tests : (t n : Bool) → (t ≡ n → ⊥)
-        → cond t (cond n (ok (begun extra at true)) (fault_at {A = Payload} faults.ExtraHeader at))
-        (cond n (fault_at faults.NoExtraHeader at) (ok (begun extra at false)))
-        ≡ fault_at (cond t faults.ExtraHeader faults.NoExtraHeader) at
+        → cond t (cond n (ok (begun extra at true)) (payload_fault_at {A = Payload} faults.ExtraHeader at))
+        (cond n (payload_fault_at faults.NoExtraHeader at) (ok (begun extra at false)))
+        ≡ payload_fault_at (cond t faults.ExtraHeader faults.NoExtraHeader) at
     at_tests true true ne = absurd (ne refl)
     at_tests true false ne = refl
     at_tests false true ne = refl
@@ -33,8 +33,8 @@ alike : (extra : Option Header) (at start : ℕ) → 2 ≤ start → (start == 2
 alike extra at start high same = rw (le-ltb start 2 high) (at_tests (start == 2) (is_none extra) same)
   where
     at_tests : (t n : Bool) → t ≡ n
-        → cond t (cond n (ok (begun extra at true)) (fault_at {A = Payload} faults.ExtraHeader at))
-        (cond n (fault_at faults.NoExtraHeader at) (ok (begun extra at false)))
+        → cond t (cond n (ok (begun extra at true)) (payload_fault_at {A = Payload} faults.ExtraHeader at))
+        (cond n (payload_fault_at faults.NoExtraHeader at) (ok (begun extra at false)))
         ≡ ok (begun extra at t)
     at_tests true true e = refl
     at_tests true false e = absurd cc
@@ -84,7 +84,7 @@ returns-then-begins-clause-exact c =
     let differ = differ_are (start == 2) c.is_none.result c.args.extra c.if-begins-is_none.true c.is_none.ensures in
     let test : (start == 2) ≡ true = eq-eqb start 2 (omega arith) in
     rw (c.at-then-begins.ensures, read) (sym (unlike c.args.extra c.args.at start (omega arith) differ
-    ∙ ap (λ (t : Bool). fault_at (cond t faults.ExtraHeader faults.NoExtraHeader) c.args.at) test))
+    ∙ ap (λ (t : Bool). payload_fault_at (cond t faults.ExtraHeader faults.NoExtraHeader) c.args.at) test))
 
 pub returns-then-begins-is_none-clause-exact : goal.returns-then-begins-is_none-clause-exact
 unfolding begun_at
@@ -94,7 +94,7 @@ returns-then-begins-is_none-clause-exact c =
     let differ = differ_are (start == 2) c.is_none.result c.args.extra c.if-begins-is_none.true c.is_none.ensures in
     let test : (start == 2) ≡ false = ne_eqb start 2 (λ same. omega (arith, same)) in
     rw (c.at-then-begins-is_none.ensures, read) (sym (unlike c.args.extra c.args.at start (omega arith) differ
-    ∙ ap (λ (t : Bool). fault_at (cond t faults.ExtraHeader faults.NoExtraHeader) c.args.at) test))
+    ∙ ap (λ (t : Bool). payload_fault_at (cond t faults.ExtraHeader faults.NoExtraHeader) c.args.at) test))
 
 pub returns-clause-exact : goal.returns-clause-exact
 unfolding begun_at

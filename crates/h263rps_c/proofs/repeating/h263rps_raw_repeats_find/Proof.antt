@@ -32,7 +32,7 @@ use Rattle.core.proofs.result.Result.TheLaws as result_laws
 use Rattle.std.proofs.raw_atomic.Walks.{proved, leaves}
 use Rattle.h263rps_c.specs.declared.receiver.Lent.{Lent}
 use Rattle.h263rps_c.specs.declared.refusals.EndRefusal.{EndRefusal}
-use Rattle.h263rps_c.specs.Refusals.{refusal_in, status_of}
+use Rattle.h263rps_c.specs.Refusals.{end_refusal, status_of}
 use Rattle.h263rps_c.specs.Slots.{for_repeats}
 use Rattle.h263rps_c.specs.Repeating.{FindsPacket}
 use Rattle.h263rps_c.specs.Returned.{KeepsEnd}
@@ -123,7 +123,7 @@ h263rps_raw_repeats_find_spec 𝓤 𝓛 𝓜 𝓡 wired =
     (and_then ! (get ! refl) (and_then ! (get ! refl) (no_more !))) (λ u.
     use1 𝓛 (later (some (λ (r : Packet). ((‵ (flft κ q) ⊛ ‵ ftrue) ⊛ ‵ ((R κ).own_val r (u ∷ []))) ⊛ some
     (λ (ws : Unit {0} × (Unit {0} × Unit {0})). ‵ (lasts f.ended (κ, tt) (slot, (sequence, tt)) ws) ⊛
-    (raw (fact 𝓤 (refusal_in r ≡ for_repeats inside)) ⊛ (raw (fact 𝓤 (IfOk r (λ s. FindsPacket sequence inside s.now)))
+    (raw (fact 𝓤 (end_refusal r ≡ for_repeats inside)) ⊛ (raw (fact 𝓤 (IfOk r (λ s. FindsPacket sequence inside s.now)))
     ⊛ ‵ (KeepsEnd slot))))))) (id⊢ 𝓤 _) $
     await ! tt $ pick ! (λ r. split ! $ split ! $ split ! $ move ! (3 ∷ []) $ pick !
     (λ _. split ! $ drop ! $ split ! $ heard ! _ (λ refused. split ! $ heard ! _ (λ shown.
@@ -139,7 +139,7 @@ h263rps_raw_repeats_find_spec 𝓤 𝓛 𝓜 𝓡 wired =
     (and_then ! (get ! refl) (and_then ! (get ! refl) (no_more !))) (λ v.
     use1 𝓛 (later (some (λ (n : ℕ). ((‵ (flft κ q) ⊛ ‵ (flft κ' q') ⊛ ‵ ftrue) ⊛ ‵ (u32.own_val n (v ∷ []))) ⊛ some
     (λ (ws : Unit {0} × (Lent × Unit {0})). ‵ (lasts g.ended κs (r, (lent, tt)) ws) ⊛
-    (raw (fact 𝓤 (n ≡ status_of (refusal_in r))) ⊛ (raw (fact 𝓤 (n ≢ 0 → ws.1.0 ≡ lent.now)) ⊛ raw (fact 𝓤 (n ≡ 0
+    (raw (fact 𝓤 (n ≡ status_of (end_refusal r))) ⊛ (raw (fact 𝓤 (n ≢ 0 → ws.1.0 ≡ lent.now)) ⊛ raw (fact 𝓤 (n ≡ 0
     → r ≡ Ok ws.1.0.samples)))))))) (id⊢ 𝓤 _) $
     await ! tt $ pick ! (λ n. split ! $ split ! $ move ! (2 ∷ []) $ pick !
     (λ ws. split ! $ move ! (1 ∷ []) $ split ! $ heard ! _

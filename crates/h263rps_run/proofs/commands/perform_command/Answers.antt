@@ -5,7 +5,7 @@ use Rattle.h263_outside.specs.Desk.{with_role}
 use Rattle.h263_outside.specs.declared.desk.Role.{Role}
 use Rattle.h263_outside.specs.declared.desk.Role.TheVariants.{Report}
 use Rattle.command_words.specs.Asked.{IsCommand}
-use Rattle.command_words.specs.Simple.{Text}
+use Rattle.h263_types.specs.Texts.{Text}
 use Rattle.command_words.specs.declared.command.Command.{Command}
 use Rattle.desk_program.specs.Attached.{AreAttached, are_free, names}
 use Rattle.h263rps_run.specs.Output.{roles_of}

@@ -3,7 +3,7 @@ use Rattle.std.specs.Option.{option_map}
 use Rattle.std.specs.Borrow.{Bor}
 use Rattle.std.proofs.lemmas.List.{append-nil, length-set}
 use Rattle.h263_outside.specs.declared.desk.Role.TheVariants.{Video}
-use Rattle.command_words.specs.Simple.{Text}
+use Rattle.h263_types.specs.Texts.{Text}
 use Rattle.command_words.specs.View.{asked_of}
 use Rattle.desk_program.specs.Attached.{names}
 use Rattle.h263rps_run.proofs.Named.{all_named, named, order, passed, put}

@@ -1,7 +1,7 @@
 use Rattle.std.proofs.Common.{◌≡◌, ◌+◌, ◌∙◌, refl, subst, arith}
 use Rattle.std.specs.Int.RustNames.{bit_xor}
 use Rattle.h263_planes.specs.Lent.{picture}
-use Rattle.half_sample.specs.Rows.{AreSamples, sixteen_from}
+use Rattle.half_sample.specs.Rows.{IsRowOfSamples, sixteen_from}
 use Rattle.half_sample.proofs.Lanes.{lanes, samples_are}
 use Rattle.half_sample.proofs.Lines.{part_from}
 use Rattle.half_sample.proofs.around.line_at.Goals as goal
@@ -28,9 +28,9 @@ returns c =
     let hm = c.load-centre.ensures.samples in
     let ha = c.load-after.ensures.samples in
     record {
-      before = subst (AreSamples 16) b (samples_are hb);
-      middle = subst (AreSamples 16) m (samples_are hm);
-      after = subst (AreSamples 16) a (samples_are ha);
+      before = subst (IsRowOfSamples 16) b (samples_are hb);
+      middle = subst (IsRowOfSamples 16) m (samples_are hm);
+      after = subst (IsRowOfSamples 16) a (samples_are ha);
       centre_samples = samples_are hm;
       left_samples = samples_are c.mean.ensures.samples;
       right_samples = samples_are c.mean-2.ensures.samples;

@@ -3,7 +3,7 @@ use Rattle.std.proofs.Common.{◌≡◌, ℕ, ◌+◌, ◌∙◌, subst, arith, 
 use Rattle.std.specs.Int.RustNames.{bit_xor}
 use Rattle.h263_planes.specs.Lent.{picture}
 use Rattle.half_sample.specs.Prediction.{interpolated}
-use Rattle.half_sample.specs.Rows.{AreMeans, IsLine, sixteen_from}
+use Rattle.half_sample.specs.Rows.{AreMeans, IsSampleLine, sixteen_from}
 use Rattle.h263_planes.specs.declared.Plane.TheVariants.{Y}
 use Rattle.half_sample.proofs.Blocks.{row_step}
 use Rattle.half_sample.proofs.Lanes.{lanes, samples_are}
@@ -14,7 +14,7 @@ pub loop-j-init : goal.loop-j-init
 loop-j-init c =
     let e : c.from-top.result ≡ c.args.place.y + 0 = omega (arith, c.from-top.ensures) in
     record {
-      line = subst (λ (k : ℕ). IsLine (picture c.args.reference) c.args.place.x k c.line_at-above.result) e
+      line = subst (λ (k : ℕ). IsSampleLine (picture c.args.reference) c.args.place.x k c.line_at-above.result) e
           c.line_at-above.ensures;
       rows = record {
         left = λ j i hj hi. absurd (omega (arith, hj));
@@ -43,7 +43,8 @@ loop-j-preserved c =
     let inv = c.loop-j.invariant in
     let above = inv.line in
     let et : c.from-top.result + (j + 1) ≡ z = omega (arith, c.from-top.ensures) in
-    let below : IsLine p x z c.line_at-below.result = subst (λ (k : ℕ). IsLine p x k c.line_at-below.result) et
+    let below : IsSampleLine p x z c.line_at-below.result = subst (λ (k : ℕ). IsSampleLine p x k c.line_at-below.result)
+    et
     c.line_at-below.ensures in
     let down : AreMeans (sixteen_from p (x + 1) y) (sixteen_from p (x + 1) z) c.mean-up.result _ =
     record {

@@ -1,5 +1,5 @@
 use Rattle.std.proofs.Common.{◌∙◌, ap, arith, lit≤, lit<, unsigned_abs, pos, get_or}
-use Rattle.idct8.specs.Vectors.{row_at, square}
+use Rattle.idct8.specs.Vectors.{row_at, squared}
 use Rattle.idct8.proofs.Squares.{by_columns, column_squares, sample_row, up_by}
 use Rattle.idct8.proofs.Vectors.{passed_lane, passed_within}
 use Rattle.idct8.proofs.small.sum_of_squares.Goals as goal
@@ -17,7 +17,7 @@ sum_of_lanes-requires-clause-size c = passed_within 520200 520200 (lit≤ tt) (l
 
 pub returns-clause-sum : goal.returns-clause-sum
 returns-clause-sum c =
-    by_columns (λ k. square (get_or c.args.samples.now k (pos 0))) c.sum_of_lanes.ensures.sum
+    by_columns (λ k. squared (get_or c.args.samples.now k (pos 0))) c.sum_of_lanes.ensures.sum
     (ap unsigned_abs (passed_lane 520200 0 (lit≤ tt) c.squares_down.ensures.size)
     ∙ column_squares c.args.samples.now c.rows.result c.squares_down.result 0 (lit< tt) c.rows.ensures.numbers
     (c.squares_down.ensures.value 0 (lit< tt)))

@@ -1,6 +1,6 @@
 use Rattle.std.proofs.Common.{◌≡◌, ℕ, false, length, ap, ◌∙◌, arith}
 use Rattle.h263_types.specs.declared.Kind.TheVariants as kinds
-use Rattle.macroblock_layer.specs.Written.{has_levels, cbpy_of, cbpc_of, head_text}
+use Rattle.macroblock_layer.specs.Written.{has_levels, cbpy_of, cbpc_of, mb_head_text}
 use Rattle.macroblock_layer.proofs.Lengths.{head_short, vector_short, inter_blocks_short, inter_mb_length}
 use Rattle.macroblock_layer.proofs.writing.write_inter_mb.Goals as goal
 
@@ -37,10 +37,10 @@ pub returns-clause-len : goal.returns-clause-len
 returns-clause-len c =
     let p = c.pattern_by-pattern in
     let bs = c.args.blocks.now in
-    let same : length (head_text kinds.P c.args.quant c.args.new false p.result.cbpy p.result.cbpc)
-    ≡ length (head_text kinds.P c.args.quant c.args.new false (cbpy_of has_levels bs) (cbpc_of has_levels bs)) =
-    ap (λ (n : ℕ). length (head_text kinds.P c.args.quant c.args.new false n p.result.cbpc))
+    let same : length (mb_head_text kinds.P c.args.quant c.args.new false p.result.cbpy p.result.cbpc)
+    ≡ length (mb_head_text kinds.P c.args.quant c.args.new false (cbpy_of has_levels bs) (cbpc_of has_levels bs)) =
+    ap (λ (n : ℕ). length (mb_head_text kinds.P c.args.quant c.args.new false n p.result.cbpc))
     (p.ensures.cbpy bs c.requires.marks)
-    ∙ ap (λ (n : ℕ). length (head_text kinds.P c.args.quant c.args.new false (cbpy_of has_levels bs) n))
+    ∙ ap (λ (n : ℕ). length (mb_head_text kinds.P c.args.quant c.args.new false (cbpy_of has_levels bs) n))
     (p.ensures.cbpc bs c.requires.marks) in
     omega (arith, same, inter_mb_length c.args.quant c.args.predictor c.args.new c.args.vector bs)

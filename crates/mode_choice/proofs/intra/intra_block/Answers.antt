@@ -7,7 +7,7 @@ use Rattle.std.proofs.lemmas.Bool.Decides.{nat_tests}
 use Rattle.std.proofs.lemmas.List.FromFn.{fill_by_all}
 use Rattle.h263_types.specs.declared.blocks.Block.{Block}
 use Rattle.h263_types.specs.Blocks.{IsCoefficient, IsDc}
-use Rattle.mode_choice.specs.Choice.{coefficient_at, level_of, levels_of, limited_dc}
+use Rattle.mode_choice.specs.Choice.{coefficient_at, chosen_level, levels_of, limited_dc}
 use Rattle.quantiser.specs.Zigzag.{block_place_of}
 use Rattle.mode_choice.proofs.Levels.{coefficient_kept}
 use Rattle.mode_choice.proofs.Marked.{set_mark}
@@ -26,9 +26,9 @@ dc_kept z h = omega (arith, ints)
 
 -- INTRADC, and after it the levels that stand already
 with_first : (quant keep : ℕ) (samples levels : List ℤ) (dc : ℤ) → length levels ≡ 64
-    → dc ≡ level_of quant keep 0 (coefficient_at samples 0) →
-    ((k : ℕ) → 1 ≤ k → k < 64 → get_or levels k (pos 0) ≡ level_of quant keep k (coefficient_at samples k)) →
-    (k : ℕ) → k < 64 → get_or (slice_set levels 0 dc) k (pos 0) ≡ level_of quant keep k (coefficient_at samples k)
+    → dc ≡ chosen_level quant keep 0 (coefficient_at samples 0) →
+    ((k : ℕ) → 1 ≤ k → k < 64 → get_or levels k (pos 0) ≡ chosen_level quant keep k (coefficient_at samples k)) →
+    (k : ℕ) → k < 64 → get_or (slice_set levels 0 dc) k (pos 0) ≡ chosen_level quant keep k (coefficient_at samples k)
 with_first quant keep samples levels dc long first others zero h = get_or-set_same levels 0 dc (pos 0)
     (omega (arith, long)) ∙ first
 with_first quant keep samples levels dc long first others (suc k) h = get_or-set_other levels 0 (suc k) dc (pos 0)
@@ -53,7 +53,7 @@ returns-clause-levels c =
     (coefficient_kept c.transformed-first.result.0 c.transformed-first.ensures.first_range
     ∙ c.transformed-first.ensures.first) in
     let block : List ℤ → Block = λ ls. record { levels = ls } in
-    ap block (fill_by_all (λ (k : ℕ). level_of quant keep k (coefficient_at samples k)) (slice_set levels 0 dc) 64
+    ap block (fill_by_all (λ (k : ℕ). chosen_level quant keep k (coefficient_at samples k)) (slice_set levels 0 dc) 64
     (pos 0) (length-set levels 0 dc ∙ c.transformed-first.ensures.long)
     (with_first quant keep samples levels dc c.transformed-first.ensures.long first
     (λ k some below. c.transformed-first.ensures.levels k below ∙ behind k _ _ some)))

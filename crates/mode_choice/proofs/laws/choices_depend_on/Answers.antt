@@ -8,7 +8,7 @@ use Rattle.h263_planes.specs.Picture.{Picture}
 use Rattle.motion_search.specs.Best.{best_vector}
 use Rattle.motion_search.specs.Cost as luma
 use Rattle.picture_header.specs.declared.header.Header.{Header}
-use Rattle.mode_choice.specs.Choice.{choices_of, deviation_of, inter_of, intra_of, is_intra}
+use Rattle.mode_choice.specs.Choice.{choices_of, deviation_of, inter_of, intra_of, chooses_intra}
 use Rattle.mode_choice.proofs.laws.choices_depend_on.Goals as goal
 
 -- the choice by the numbers that it takes
@@ -16,7 +16,7 @@ abbrev chosen : Picture → Option Picture → ℕ → ℕ → ℕ → ℕ → �
 chosen frame None rounding quant radius keep mb = intra_of frame quant keep mb
 chosen frame (Some reference) rounding quant radius keep mb =
     let best = best_vector frame reference mb radius rounding in
-    if is_intra (deviation_of (luma.samples_of frame mb)) best.cost
+    if chooses_intra (deviation_of (luma.samples_of frame mb)) best.cost
     then intra_of frame quant keep mb
     else inter_of frame reference quant keep rounding mb best.vector
 

@@ -2,7 +2,7 @@ use Rattle.std.proofs.Common.{◌≡◌, ℕ, ◌<◌, arith, ap, ◌∙◌, Lis
 use Rattle.std.proofs.lemmas.List.FromFn.{fill_by_all}
 use Rattle.h263_types.specs.declared.blocks.Block.{Block}
 use Rattle.h263_planes.specs.Lent.{picture}
-use Rattle.mode_choice.specs.Choice.{blocks_of, levels_of, samples_of}
+use Rattle.mode_choice.specs.Choice.{blocks_of, levels_of, samples_of_block}
 use Rattle.mode_choice.proofs.Marked.{one_more_marked}
 use Rattle.mode_choice.proofs.Zeros.{all_zeros, one_zero_less}
 use Rattle.mode_choice.proofs.macroblock.intra_blocks.Goals as goal
@@ -24,7 +24,7 @@ pub loop-block-preserved : goal.loop-block-preserved
 loop-block-preserved c =
     let b : ℕ = c.loop-block.block in
     let block : ℕ → Block = λ b. levels_of c.args.quantisation.quant c.args.quantisation.keep
-    (samples_of (picture c.args.frame) c.args.mb b) in
+    (samples_of_block (picture c.args.frame) c.args.mb b) in
     let now : c.intra_block.new.out ≡ block b = c.intra_block.ensures.levels
     ∙ ap (λ (samples : List ℤ). levels_of c.args.quantisation.quant c.args.quantisation.keep samples)
     c.block_samples.ensures.samples in
@@ -44,7 +44,7 @@ pub returns-clause-blocks : goal.returns-clause-blocks
 unfolding blocks_of
 returns-clause-blocks c =
     let block : ℕ → Block = λ b. levels_of c.args.quantisation.quant c.args.quantisation.keep
-    (samples_of (picture c.args.frame) c.args.mb b) in
+    (samples_of_block (picture c.args.frame) c.args.mb b) in
     fill_by_all block c.loop-block.out 6 (block 0) c.loop-block.invariant.0 (λ b h. c.loop-block.invariant.1 (block 0) b
     (omega arith))
 

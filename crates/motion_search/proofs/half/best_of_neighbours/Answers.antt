@@ -2,7 +2,7 @@ use Rattle.std.proofs.Common.{subst, ℤ, ◌↔◌}
 use Rattle.h263_types.specs.declared.format.Format.{Format}
 use Rattle.h263_types.specs.Vectors.{InReach, IsWithin}
 use Rattle.h263_planes.specs.Lent.{picture}
-use Rattle.motion_search.specs.Vectors.{around}
+use Rattle.motion_search.specs.Vectors.{vector_around}
 use Rattle.motion_search.proofs.Bests.{settled_is_best_near}
 use Rattle.motion_search.proofs.Nears.{nine_within}
 use Rattle.motion_search.proofs.half.best_of_neighbours.Goals as goal
@@ -23,6 +23,6 @@ best_inside-requires-clause-inside c = λ k hk.
     let are = c.are_within.ensures.0 c.if-are_within.true in
     let iff = subst (λ (f : Format). (x y : ℤ) → InReach f c.args.mb x y ↔ IsWithin c.reach-reach.result x y)
     c.format.ensures.format c.reach-reach.ensures in
-    (iff (around v k).x (around v k).y).1
+    (iff (vector_around v k).x (vector_around v k).y).1
     (nine_within c.reach-reach.result v c.neighbour-up_left.result c.neighbour-down_right.result k hk
     c.neighbour-up_left.ensures c.neighbour-down_right.ensures are.0 are.1)

@@ -3,7 +3,7 @@ use Rattle.std.proofs.lemmas.Int.{to_z-of_z}
 use mir.Val.{SFits}
 use Rattle.motion_search.specs.declared.candidate.Candidate.{Candidate}
 use Rattle.motion_search.specs.Cost.{IsCost}
-use Rattle.motion_search.specs.Order.{first_of}
+use Rattle.motion_search.specs.Order.{earlier_of}
 use Rattle.motion_search.proofs.Blocks.{costing}
 use Rattle.motion_search.proofs.Halves.{stays_first}
 use Rattle.motion_search.proofs.Orders.{first_has}
@@ -20,7 +20,7 @@ returns-then-is_below-clause-first c =
 pub returns-clause-first : goal.returns-clause-first
 returns-clause-first c =
     c.first.ensures
-    ∙ ap (first_of c.args.so_far) (c.with_differences.ensures.candidate
+    ∙ ap (earlier_of c.args.so_far) (c.with_differences.ensures.candidate
     ∙ ap (λ (w : Vector). costing w c.args.sum) c.neighbour.ensures)
 
 pub returns-clause-cost : goal.returns-clause-cost

@@ -1,7 +1,7 @@
 -- The areas of the rows before the place have their sums, with those of the columns beside them.
 use Rattle.std.proofs.Common.{◌≡◌, refl, ap, subst, ◌∙◌, arith, below_more, ℕ, ◌+◌, ◌-◌, ◌*◌, ◌≤◌, inl, get_or}
 use Rattle.h263_planes.specs.Lent.{picture}
-use Rattle.motion_search.specs.Areas.{area_sum, AreBytes, AreColumns, IsBeside}
+use Rattle.motion_search.specs.Areas.{area_sum, AreSamplesAt, AreColumns, IsBeside}
 use Rattle.motion_search.proofs.Held.{lent_rows_beside, place_of_row, some_small, row_apart}
 use Rattle.motion_search.proofs.kept.add_strip.Goals as goal
 
@@ -67,8 +67,10 @@ put_areas-requires-clause-columns c =
       row = c.args.rows.first + k;
       bytes = some.bytes;
       sums = c.with_row-full.ensures some.samples (c.args.rows.first + k) 7 some.bytes (omega arith)
-          (lent_rows_beside (picture c.args.reference) c.args.x c.args.z (c.args.rows.first + b) _ _ _ (k - b + 7) _ some.samples
-          c.rows-left.result.now c.rows-right.result.now c.row_from.result.now c.row_from-in-loop-k.result.now some.beside
+          (lent_rows_beside (picture c.args.reference) c.args.x c.args.z (c.args.rows.first + b) _ _ _ (k - b + 7)
+          _ some.samples
+          c.rows-left.result.now c.rows-right.result.now c.row_from.result.now c.row_from-in-loop-k.result.now
+          some.beside
           (omega (arith, c.loop-k-test.true, inv.low)) (below ∙ ap (λ (n : ℕ). n * (k - b + 7)) c.width-width.ensures)
           (omega (arith, inv.low)) c.rows-left.ensures.samples c.rows-right.ensures.samples c.row_from.ensures.samples
           c.row_from-in-loop-k.ensures.samples)
@@ -88,7 +90,8 @@ loop-k-preserved c =
     let w = c.width-width.result in
     let at : c.loop-k.at ≡ w * (k - b) = place_of_row w b k c.loop-k.at inv.low inv.place in
     let below : c.loop-k.at + 7 * w ≡ w * (k - b + 7) = omega (arith, at) in
-    let eight : (f : ℕ → ℕ → ℕ) → AreBytes f → IsBeside p x c.args.z f → AreColumns f row 8 c.with_row-full.result = λ f bytes beside.
+    let eight : (f : ℕ → ℕ → ℕ) → AreSamplesAt f → IsBeside p x c.args.z f
+    → AreColumns f row 8 c.with_row-full.result = λ f bytes beside.
     c.with_row-full.ensures f row 7 bytes (omega arith)
     (lent_rows_beside p x c.args.z (c.args.rows.first + b) _ _ _ (k - b + 7) _ f
     c.rows-left.result.now c.rows-right.result.now c.row_from.result.now c.row_from-in-loop-k.result.now beside
@@ -96,12 +99,15 @@ loop-k-preserved c =
     (omega (arith, inv.low)) c.rows-left.ensures.samples c.rows-right.ensures.samples c.row_from.ensures.samples
     c.row_from-in-loop-k.ensures.samples)
     (inv.columns f bytes beside) in
-    let seven : (f : ℕ → ℕ → ℕ) → AreBytes f → IsBeside p x c.args.z f → AreColumns f (row + 1) 7 c.without_row-columns.result = λ f bytes beside.
+    let seven : (f : ℕ → ℕ → ℕ) → AreSamplesAt f → IsBeside p x c.args.z f
+    → AreColumns f (row + 1) 7 c.without_row-columns.result = λ f bytes beside.
     c.without_row-columns.ensures f row 7 bytes (omega arith)
     (lent_rows_beside p x c.args.z (c.args.rows.first + b) _ _ _ (k - b) _ f
-    c.rows-left.result.now c.rows-right.result.now c.row_from-in-loop-k-2.result.now c.row_from-in-loop-k-3.result.now beside
+    c.rows-left.result.now c.rows-right.result.now c.row_from-in-loop-k-2.result.now c.row_from-in-loop-k-3.result.now
+    beside
     (omega (arith, c.loop-k-test.true, inv.low)) (at ∙ ap (λ (n : ℕ). n * (k - b)) c.width-width.ensures)
-    (omega (arith, inv.low)) c.rows-left.ensures.samples c.rows-right.ensures.samples c.row_from-in-loop-k-2.ensures.samples
+    (omega (arith, inv.low)) c.rows-left.ensures.samples c.rows-right.ensures.samples
+    c.row_from-in-loop-k-2.ensures.samples
     c.row_from-in-loop-k-3.ensures.samples)
     (eight f bytes beside) in
     record {
@@ -125,7 +131,8 @@ loop-k-preserved c =
           ∙ inv.stored f bytes beside n i from hn hi)
           (λ from.
           let place : 384 * k + (x + i) ≡ 384 * k + x + i = omega arith in
-          ap (λ (m : ℕ). get_or c.put_areas.new.out m 0) place ∙ put.stored f row i bytes (eight f bytes beside) hi) n to from;
+          ap (λ (m : ℕ). get_or c.put_areas.new.out m 0) place
+          ∙ put.stored f row i bytes (eight f bytes beside) hi) n to from;
       before = λ n col hc. put.others (384 * n + col) (row_apart x k n col hc c.requires.across.0)
           ∙ inv.before n col hc;
     }

@@ -3,7 +3,7 @@ use Rattle.std.proofs.lemmas.Int.{ints}
 use Rattle.h263_types.specs.declared.vector.Vector.{Vector}
 use Rattle.h263_planes.specs.Lent.{picture}
 use Rattle.motion_search.specs.declared.candidate.Candidate.{Candidate}
-use Rattle.motion_search.specs.Order.{before, first_of}
+use Rattle.motion_search.specs.Order.{before, earlier_of}
 use Rattle.motion_search.specs.Cost.{candidate_of, difference_of, IsCost}
 use Rattle.motion_search.proofs.Blocks.{all_rows, costing}
 use Rattle.motion_search.proofs.Leads.{not_before_by_differences}
@@ -36,7 +36,7 @@ returns-else-sum-best-clause-first c =
     let reference = picture c.args.window.reference in
     let v = c.args.vector in
     c.first.ensures
-    ∙ ap (first_of c.args.best)
+    ∙ ap (earlier_of c.args.best)
     (c.with_differences.ensures.candidate
     ∙ ap (costing v)
     (c.differences_at-sum.ensures.value

@@ -13,7 +13,7 @@ use Rattle.motion_search.specs.declared.kept.KeptSums.{KeptSums}
 use Rattle.motion_search.specs.declared.strip.Leader.{Leader}
 use Rattle.motion_search.specs.declared.window.Window.{Window}
 use Rattle.motion_search.specs.Order.{before}
-use Rattle.motion_search.specs.SoFar.{HasLimit, HoldsAround, IsKept, IsNoBetter, IsSoFar}
+use Rattle.motion_search.specs.SoFar.{HasLimit, HoldsAround, IsNoWorse, IsNoBetter, IsBestSoFar}
 use Rattle.motion_search.proofs.Reaches.{IsInRows, between_rows, after_first_row, before_end_row, end_is, first_is, first_row_in, row_inside, row_ends, column_starts, column_ends, reached_column_ends}
 use Rattle.motion_search.proofs.Held.{width_small}
 use Rattle.motion_search.proofs.Strips.{next_place, place_adds, place_of_row, row_near, unmarked_not_before}
@@ -81,7 +81,7 @@ loop-row-init c =
         held.0,
         place_adds w.top top w.radius c.first_in-first_row.result c.place-top.ensures.place,
       );
-      so_far = subst (IsSoFar w) (sym led.best) c.requires.so_far;
+      so_far = subst (IsBestSoFar w) (sym led.best) c.requires.so_far;
       most = led.most;
       kept = λ d h. subst (λ (best : Candidate). before d best ≡ false) (sym led.best) h;
       none = λ m i hm hi hc reached.
@@ -224,15 +224,15 @@ loop-row-preserved c =
     let next : Leader = c.if-marks-ne0.first in
     let NoneAt = λ (best : Candidate). (i : ℕ) → i < 16 → c.args.column + i < 2 * w.radius + 1
     → IsNoBetter w (c.args.column + i) row best in
-    let Step = λ (l : Leader). IsSoFar w l.best × HasLimit l × IsKept now l.best × NoneAt l.best in
+    let Step = λ (l : Leader). IsBestSoFar w l.best × HasLimit l × IsNoWorse now l.best × NoneAt l.best in
     let step : Step next = elim c.if-marks-ne0.branch [
       | then-marks-ne0 t ↦
           let looked = t.best_of_marked.ensures in
           let led = t.led_by-first-then-marks-ne0.ensures in
           subst Step (sym t.first-is) (
-            subst (IsSoFar w) (sym led.best) looked.so_far,
+            subst (IsBestSoFar w) (sym led.best) looked.so_far,
             led.most,
-            subst (IsKept now) (sym led.best) looked.kept,
+            subst (IsNoWorse now) (sym led.best) looked.kept,
             subst NoneAt (sym led.best) looked.none,
           )
       | else-marks-ne0 t ↦

@@ -1,5 +1,5 @@
 use Rattle.std.specs.Prelude.{slice_get}
-use Rattle.call_model.specs.Sending.{packets_of}
+use Rattle.call_model.specs.Sending.{packets_at}
 use Rattle.call_decoding.specs.Rules.{rules_of}
 use Rattle.coded_call.specs.Coding.{coding}
 use Rattle.receiver_end.specs.State.{run_of}
@@ -23,7 +23,7 @@ returns c = λ p. record {
   packet = λ before frames n j past.
       let w = both_after p (steady p) frames before past in
       sender_after (coding p) (rules_of p) (run_of p before) (steady p) frames w n
-      (slice_get (packets_of (coding p).encoding (rules_of p) w.sender.coded n) j);
+      (slice_get (packets_at (coding p).encoding (rules_of p) w.sender.coded n) j);
   message = λ before frames k past.
       let w = both_after p (steady p) frames before past in
       coded_brought (coding p) (rules_of p) (run_of p before) (steady p) frames w (slice_get w.said k);

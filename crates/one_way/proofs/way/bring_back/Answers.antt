@@ -28,4 +28,4 @@ returns-clause-holds c = λ p way receiver before frames past k told paced h at 
     holds_message p way old receiver before frames past h new k near
     (after_message p (c.ends_run.ensures p) (steady p) old receiver frames before past h.joined new k told
     (ap (λ (x : SenderState FixedPace). x.params) c.feedback.ensures.others) at
-    (subst (λ (bytes : List ℕ). sender_end.Stands (steady p) new (Feedback bytes ∷ entries)) (sym same) stands))
+    (subst (λ (bytes : List ℕ). sender_end.PacedStands (steady p) new (Feedback bytes ∷ entries)) (sym same) stands))

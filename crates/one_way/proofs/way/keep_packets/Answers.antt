@@ -1,8 +1,8 @@
 -- The packets before the place stand in the ring as the picture's.
 use Rattle.std.proofs.Common.{◌≡◌, ℕ, ◌+◌, ◌<◌, ◌≤◌, List, [], ◌∷◌, ◌++◌, length, take, sym, ap, subst, ◌∙◌, arith}
 use Rattle.std.proofs.lemmas.List.{length-take-le, take_all, take_more}
-use Rattle.call_rings.specs.Keeping.{HoldsPackets, most_of, room_of}
-use Rattle.call_rings.specs.Parts.{size_of}
+use Rattle.call_rings.specs.Keeping.{HoldsPackets, most_of, ring_room}
+use Rattle.call_rings.specs.Parts.{total_size}
 use Rattle.one_way.proofs.way.keep_packets.Goals as goal
 
 pub push-requires : goal.push-requires
@@ -21,7 +21,7 @@ push-requires c =
       c.packets.invariant.sizes.most_is,
     ) in
     let size : length c.packet.result.now ≡ length _ = ap (λ (l : List ℕ). length l) c.packet.ensures.value in
-    let small : size_of (take i packets) + length c.packet.result.now ≤ room_of ring =
+    let small : total_size (take i packets) + length c.packet.result.now ≤ ring_room ring =
     omega (
       arith,
       size,

@@ -2,7 +2,7 @@ use Rattle.std.proofs.Common.{◌≡◌, ℕ, ◌+◌, ◌%◌, ◌-◌, List, l
 use Rattle.std.proofs.lemmas.List.{take_all, length-drop, drop-map}
 use Rattle.h263_types.specs.declared.blocks.Mb.{Mb}
 use Rattle.packet_cutter.specs.Cut.{IsLongest}
-use Rattle.packet_cutter.specs.Kept.{most_bytes, kept_packets, Appends}
+use Rattle.packet_cutter.specs.Kept.{most_bytes, kept_packets, AppendsPacket}
 use Rattle.packet_cutter.specs.Taken.{unmarked}
 use Rattle.packet_cutter.proofs.Marked.{length-unmarked}
 use Rattle.packet_cutter.proofs.Turns.{IsUnderWay, IsNext, turned}
@@ -27,9 +27,9 @@ packets-preserved c =
     ≡ drop c.packets.first mbs =
     ap unmarked (take_all (length marked - c.packets.first) (drop c.packets.first marked)
     (omega (arith, length-drop c.packets.first marked))) ∙ sym (drop-map (λ m. m.mb) c.packets.first marked) in
-    let app : Appends old c.append-first.new.self c.args.number next h c.packets.first
+    let app : AppendsPacket old c.append-first.new.self c.args.number next h c.packets.first
     (drop c.packets.first mbs) c.append-first.result =
-    subst (λ (l : List Mb). Appends old c.append-first.new.self c.args.number next h c.packets.first l
+    subst (λ (l : List Mb). AppendsPacket old c.append-first.new.self c.args.number next h c.packets.first l
     c.append-first.result) left a.packet in
     let longest : IsLongest h limit c.packets.first (take c.append-first.result (drop c.packets.first mbs))
     (drop c.append-first.result (drop c.packets.first mbs)) =

@@ -5,7 +5,7 @@ use Rattle.h263_bits.specs.Bits.{bits_of, fields}
 use Rattle.h263_types.specs.declared.blocks.Mb.{Mb}
 use Rattle.rtp_header.specs.Written.{rtp_fields}
 use Rattle.h263_payload.specs.Written.{written_payload}
-use Rattle.slice_layer.specs.Written.{slice_text, padded, bytes_of}
+use Rattle.slice_layer.specs.Written.{slice_text, padded, bytes_filled_by}
 use Rattle.packet_cutter.specs.Cut.{begins_at, extra_of, front_bytes}
 use Rattle.packet_cutter.specs.Packets.{timestamp_of, BeginsWith}
 use Rattle.packet_cutter.specs.Taken.{unmarked}
@@ -43,12 +43,12 @@ returns-clause-packet c =
     (packet_begun c.args.number c.args.sequence h (length c.args.bytes.now) first mbs count
     slice.result.size front slice.new.bytes range long parts slice.ensures.some
     (omega (arith, slice.ensures.few, all))
-    (slice.ensures.size ∙ ap (λ (run : List Mb). bytes_of (text run)) there)
+    (slice.ensures.size ∙ ap (λ (run : List Mb). bytes_filled_by (text run)) there)
     (slice.ensures.text ∙ ap (λ (run : List Mb). padded (text run)) there)
     (omega (arith, slice.ensures.fits, slice.auto.bytes)) (λ lt. omega (
       arith,
       slice.ensures.longest (omega (arith, lt, all)),
-      ap (λ (run : List Mb). bytes_of (text run)) (first_unmarked (count + 1) marked),
+      ap (λ (run : List Mb). bytes_filled_by (text run)) (first_unmarked (count + 1) marked),
       slice.auto.bytes,
     ))
     (subst (λ (n : ℕ). bits_of front ≡ fields (rtp_fields (count == n) c.args.sequence (timestamp_of c.args.number))

@@ -3,8 +3,8 @@ use Rattle.std.specs.Prelude.{is_some, IfSome}
 use Rattle.std.proofs.lemmas.List.{length-take-le}
 use Rattle.payload_join.specs.Packet.{bytes_between}
 use Rattle.payload_join.specs.Split.{split_of}
-use Rattle.payload_join.specs.Places.{Packets}
-use Rattle.payload_join.specs.Fronts.{front_bytes}
+use Rattle.payload_join.specs.Places.{PacketPlaces}
+use Rattle.payload_join.specs.Fronts.{bytes_of_front}
 use Rattle.payload_join.specs.Giving.{left_in, left_of_unit}
 use Rattle.payload_join.proofs.Rooms.{built_last, built_cut}
 use Rattle.payload_join.proofs.giving.build.Goals as goal
@@ -19,11 +19,11 @@ returns-in-None-clause-packet c =
     let long = length-take-le c.args.giving.now.front.len c.args.giving.now.front.bytes (omega (arith, bytes, is.front))
     in
     let last = subst (λ (r : List ℕ). left_of_unit g (bytes_between r g.at g.to)
-    ≡ (front_bytes g.front ++ bytes_between r g.at g.to) ∷ []) c.room.ensures.value
+    ≡ (bytes_of_front g.front ++ bytes_between r g.at g.to) ∷ []) c.room.ensures.value
     (c.part_end-end.ensures.none (ap (λ (o : Option ℕ). is_some o) c.in-None.is)) in
     built_last g room p c.requires.left (omega (arith, long, is.front, is.at)) is.order (omega (arith, size, is.end))
     last
-    ∙ ap (λ (t : Packets). bytes_between t.room p g.to ∷ []) (sym c.write.ensures)
+    ∙ ap (λ (t : PacketPlaces). bytes_between t.room p g.to ∷ []) (sym c.write.ensures)
 
 pub returns-in-Some-clause-packet : goal.returns-in-Some-clause-packet
 returns-in-Some-clause-packet c =
@@ -46,7 +46,7 @@ returns-in-Some-clause-packet c =
     c.room.ensures.value some in
     built_cut g room p len c.requires.left splits (omega (arith, long, is.front, is.at)) there
     (omega (arith, size, is.end)) cut
-    ∙ ap (λ (t : Packets). bytes_between t.room p (g.at + len) ∷ left_in (record g {
+    ∙ ap (λ (t : PacketPlaces). bytes_between t.room p (g.at + len) ∷ left_in (record g {
       at = g.at + len + 2;
       front = g.other;
     }) t.room) (sym c.write.ensures)

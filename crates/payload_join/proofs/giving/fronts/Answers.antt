@@ -4,7 +4,7 @@ use Rattle.std.specs.Prelude.{not}
 use Rattle.payload_join.specs.Packet.{bytes_between}
 use Rattle.payload_join.specs.Outgoing.{begins_picture}
 use Rattle.payload_join.specs.Places.{place_at}
-use Rattle.payload_join.specs.Ring.{IsSeen}
+use Rattle.payload_join.specs.Ring.{IsSeenPacket}
 use Rattle.payload_join.specs.Giving.{left_in}
 use Rattle.payload_join.proofs.Parted.{short_between, by_extra, by_none, by_one, by_header, by_no_header, cut_found}
 use Rattle.payload_join.proofs.giving.fronts.Goals as goal
@@ -12,7 +12,8 @@ use Rattle.payload_join.proofs.giving.fronts.Goals as goal
 pub returns-then-first-gt0-clause-left : goal.returns-then-first-gt0-clause-left
 returns-then-first-gt0-clause-left c =
     let room = c.args.ring.now.room in
-    let seen : IsSeen (Some c.in-Some.first) (place_at c.args.ring.now.packets c.args.number) = c.in-Some.ensures in
+    let seen : IsSeenPacket (Some c.in-Some.first) (place_at c.args.ring.now.packets c.args.number) =
+    c.in-Some.ensures in
     ap (λ g. left_in g room) c.all-then-first-gt0.ensures
     ∙ by_extra c.args.format (bytes_between room 77 c.args.to) (place_at c.args.ring.now.packets c.args.number)
     c.in-Some.first c.front_with-each.result seen.0 seen.1 seen.2 (short_between room c.args.to c.requires.short)
@@ -21,7 +22,8 @@ returns-then-first-gt0-clause-left c =
 pub returns-then-not-begins_picture-clause-left : goal.returns-then-not-begins_picture-clause-left
 returns-then-not-begins_picture-clause-left c =
     let room = c.args.ring.now.room in
-    let seen : IsSeen (Some c.in-Some.first) (place_at c.args.ring.now.packets c.args.number) = c.in-Some.ensures in
+    let seen : IsSeenPacket (Some c.in-Some.first) (place_at c.args.ring.now.packets c.args.number) =
+    c.in-Some.ensures in
     let coded = ap (λ l. bytes_between l 77 c.args.to) c.room.ensures.value in
     ap (λ g. left_in g room) c.all-then-not-begins_picture.ensures
     ∙ by_none c.args.format (bytes_between room 77 c.args.to) (place_at c.args.ring.now.packets c.args.number)
@@ -32,7 +34,8 @@ returns-then-not-begins_picture-clause-left c =
 pub returns-then-is_none-clause-left : goal.returns-then-is_none-clause-left
 returns-then-is_none-clause-left c =
     let room = c.args.ring.now.room in
-    let seen : IsSeen (Some c.in-Some.first) (place_at c.args.ring.now.packets c.args.number) = c.in-Some.ensures in
+    let seen : IsSeenPacket (Some c.in-Some.first) (place_at c.args.ring.now.packets c.args.number) =
+    c.in-Some.ensures in
     let coded = ap (λ l. bytes_between l 77 c.args.to) c.room.ensures.value in
     ap (λ g. left_in g room) c.all-then-is_none.ensures
     ∙ by_one c.args.format (bytes_between room 77 c.args.to) (place_at c.args.ring.now.packets c.args.number)
@@ -44,7 +47,8 @@ returns-then-is_none-clause-left c =
 pub returns-in-Some-find_end-clause-left : goal.returns-in-Some-find_end-clause-left
 returns-in-Some-find_end-clause-left c =
     let room = c.args.ring.now.room in
-    let seen : IsSeen (Some c.in-Some.first) (place_at c.args.ring.now.packets c.args.number) = c.in-Some.ensures in
+    let seen : IsSeenPacket (Some c.in-Some.first) (place_at c.args.ring.now.packets c.args.number) =
+    c.in-Some.ensures in
     let coded = ap (λ l. bytes_between l 77 c.args.to) c.room.ensures.value in
     let cut = cut_found (bytes_between c.room.result.now 77 c.args.to) c.first_cut.result (c.is_none.ensures
     ∙ ap not c.if-is_none.false) c.first_cut.ensures.some in
@@ -58,7 +62,8 @@ returns-in-Some-find_end-clause-left c =
 pub returns-in-None-clause-left : goal.returns-in-None-clause-left
 returns-in-None-clause-left c =
     let room = c.args.ring.now.room in
-    let seen : IsSeen (Some c.in-Some.first) (place_at c.args.ring.now.packets c.args.number) = c.in-Some.ensures in
+    let seen : IsSeenPacket (Some c.in-Some.first) (place_at c.args.ring.now.packets c.args.number) =
+    c.in-Some.ensures in
     let coded = ap (λ l. bytes_between l 77 c.args.to) c.room.ensures.value in
     let cut = cut_found (bytes_between c.room.result.now 77 c.args.to) c.first_cut.result (c.is_none.ensures
     ∙ ap not c.if-is_none.false) c.first_cut.ensures.some in

@@ -2,7 +2,7 @@
 use Rattle.std.proofs.Common.{ℕ, ◌+◌, ◌++◌, List, Option, length, refl, sym, ap, ◌∙◌, arith}
 use Rattle.payload_join.specs.Packet.{Packet, bytes_between}
 use Rattle.payload_join.specs.Outgoing.{coded_one, coded_from}
-use Rattle.payload_join.specs.Places.{Packets, place_at}
+use Rattle.payload_join.specs.Places.{PacketPlaces, place_at}
 use Rattle.payload_join.proofs.Slots.{put_length}
 use Rattle.payload_join.proofs.Between.{between_grown}
 use Rattle.payload_join.proofs.Following.{coded_more, more_len, coded_within}
@@ -43,9 +43,9 @@ packets-preserved c =
     let within = coded_within held c.args.number (c.packets.k + 1) c.args.count (omega arith) in
     let to = c.copy_coded-at.ensures.end in
     record {
-      top = ap (λ (t : Packets). t.top) is ∙ c.packets.invariant.top;
-      packets = ap (λ (t : Packets). t.packets) is ∙ c.packets.invariant.packets;
-      size = ap (λ (t : Packets). length t.room) is ∙ put_length room at packet (omega arith) ∙ size;
+      top = ap (λ (t : PacketPlaces). t.top) is ∙ c.packets.invariant.top;
+      packets = ap (λ (t : PacketPlaces). t.packets) is ∙ c.packets.invariant.packets;
+      size = ap (λ (t : PacketPlaces). length t.room) is ∙ put_length room at packet (omega arith) ∙ size;
       end = omega arith;
       coded = (λ i. bytes_between (is i).room 77 (to i))
           ∙ between_grown room packet 77 at (omega arith) (omega arith)

@@ -1,6 +1,6 @@
 use Rattle.std.proofs.Common.{◌-◌}
 use Rattle.h263_region.specs.Slots.{count_of, out_of}
-use Rattle.payload_join.specs.Ring.{IsClaiming}
+use Rattle.h263_region.specs.Claimed.{IsClaiming}
 use Rattle.payload_join.proofs.ring.claim_all.Given as goal
 
 abbrev pub invariant-loop-slot : goal.invariant-loop-slot

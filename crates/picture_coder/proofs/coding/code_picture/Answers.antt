@@ -9,7 +9,7 @@ use Rattle.h263_planes.specs.Work as lent
 use Rattle.mode_choice.specs.Choice.{choices_of}
 use Rattle.picture_recon.specs.Samples.{reconstruction}
 use Rattle.picture_recon.specs.Shown.{SetsMb, ShowsFirst}
-use Rattle.packet_cutter.specs.Cutting.{Holds, packets_of, sequence_of}
+use Rattle.packet_cutter.specs.Cutting.{HoldsMbs, cutter_packets, sequence_of}
 use Rattle.packet_cutter.specs.Packets.{ArePacketsOf}
 use Rattle.picture_coder.proofs.coding.code_picture.Goals as goal
 
@@ -31,7 +31,7 @@ loop-at-preserved c =
       added = record {
         begun = c.add_marked.ensures.begun;
         holds =
-            subst (λ (l : List Mb). Holds c.add_marked.new.self c.args.number h l)
+            subst (λ (l : List Mb). HoldsMbs c.add_marked.new.self c.args.number h l)
             (ap (λ (m : Mb). take at mbs ++ m ∷ []) c.choose_into.ensures.choice
             ∙ sym (c.one_for_each_place.ensures.next frame reference h params at inside))
             (c.add_marked.ensures.holds c.args.number h (take at mbs) c.loop-at.invariant.added.holds);
@@ -56,7 +56,7 @@ loop-at-preserved c =
 
 -- at the loop's end the cutter holds all that was chosen
 holds_all : (c : goal.After-finish)
-    → Holds c.loop-at.cutter c.args.number c.args.header.now
+    → HoldsMbs c.loop-at.cutter c.args.number c.args.header.now
     (choices_of (picture c.args.frame) (option_map picture c.args.reference) c.args.header.now c.args.params.now)
 holds_all c =
     let frame = picture c.args.frame in
@@ -68,14 +68,14 @@ holds_all c =
     let all : c.loop-at.at ≡ mbs_of frame.format = omega (arith, format, c.mbs-at-end.ensures, c.loop-at-test.false) in
     let each : take c.loop-at.at mbs ≡ mbs = ap (λ (n : ℕ). take n mbs) all
     ∙ c.one_for_each_place.ensures.all frame reference h params in
-    subst (λ (l : List Mb). Holds c.loop-at.cutter c.args.number h l) each c.loop-at.invariant.added.holds
+    subst (λ (l : List Mb). HoldsMbs c.loop-at.cutter c.args.number h l) each c.loop-at.invariant.added.holds
 
 pub returns-clause-packets : goal.returns-clause-packets
 returns-clause-packets c =
     let h = c.args.header.now in
     let params = c.args.params.now in
     let mbs = choices_of (picture c.args.frame) (option_map picture c.args.reference) h params in
-    let packets = packets_of c.finish.new.self in
+    let packets = cutter_packets c.finish.new.self in
     subst (λ (n : ℕ). ArePacketsOf c.args.number n h params.limit mbs packets) c.loop-at.invariant.sequence
     (subst (λ (n : ℕ). ArePacketsOf c.args.number (sequence_of c.loop-at.cutter) h n mbs packets)
     (c.loop-at.invariant.limit ∙ c.requires.cutter_limit)

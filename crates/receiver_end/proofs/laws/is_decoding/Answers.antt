@@ -3,7 +3,7 @@ use Rattle.h263_bits.specs.declared.fault.Fault.{Fault}
 use Rattle.h263_types.specs.declared.blocks.Mb.{Mb}
 use Rattle.h263_types.specs.declared.format.Format.{Format}
 use Rattle.h263_types.specs.Sizes.{mbs_of}
-use Rattle.packet_collector.specs.Packet.{Slice, packet_at}
+use Rattle.packet_collector.specs.Packet.{PacketSlice, packet_at}
 use Rattle.call_model.specs.Coding as call
 use Rattle.call_decoding.specs.Styles.{Style}
 use Rattle.receiver_end.specs.Decoding.{with_piece}
@@ -15,8 +15,8 @@ Within f (Ok p) = (0 < length p.slice.mbs) × (p.slice.first + length p.slice.mb
 Within f (Err fault) = Unit {0}
 
 -- what a packet's piece has is what its slice has
-within : (f : Format) (bytes : List ℕ) (p : call.Piece Style Mb) (o : Result Slice Fault)
-    → ((s : Slice) → o ≡ Ok s → (0 < length s.mbs) × (s.first + length s.mbs ≤ mbs_of f)) → with_piece o ≡ Ok p
+within : (f : Format) (bytes : List ℕ) (p : call.Piece Style Mb) (o : Result PacketSlice Fault)
+    → ((s : PacketSlice) → o ≡ Ok s → (0 < length s.mbs) × (s.first + length s.mbs ≤ mbs_of f)) → with_piece o ≡ Ok p
     → (0 < length p.slice.mbs) × (p.slice.first + length p.slice.mbs ≤ mbs_of f)
 within f bytes p (Ok s) inside e = subst (λ (x : Result (call.Piece Style Mb) Fault). Within f x) e (inside s refl)
 within f bytes p (Err fault) inside e = absurd cc

@@ -1,7 +1,7 @@
 use Rattle.std.proofs.Common.{◌≡◌, ℕ, List, OnOk, OnErr, ap, ◌∙◌, subst}
 use Rattle.h263_outside.specs.declared.desk.Role.{Role}
 use Rattle.h263_outside.specs.declared.desk.Role.TheVariants.{Wire}
-use Rattle.back_messages.specs.Said.{text_of}
+use Rattle.back_messages.specs.Said.{text_of_said}
 use Rattle.event_logs.specs.Text.{entry_text}
 use Rattle.desk_program.specs.Ends.{Gains, GainsFronts}
 use Rattle.desk_program.specs.Texts.{on}
@@ -13,7 +13,7 @@ use Rattle.recv_command.proofs.parts.say.Goals as goal
 pub returns-in-Some-clause-ok : goal.returns-in-Some-clause-ok
 returns-in-Some-clause-ok g c = λ clock message is.
     let outside = g.D.Desk.outside in
-    let fit : AreBytes (text_of c.in-Some.said) = subst AreBytes c.text-text.ensures c.are_bytes.ensures in
+    let fit : AreBytes (text_of_said c.in-Some.said) = subst AreBytes c.text-text.ensures c.are_bytes.ensures in
     let text : on Wire (entry_text 66 c.text-text.result.now) ≡ said_message_text message =
     ap (λ (l : List ℕ). on Wire (entry_text 66 l)) c.text-text.ensures
     ∙ said_text c.said_bytes.ensures.written clock c.args.said c.in-Some.said message c.in-Some.is fit is
@@ -24,7 +24,7 @@ returns-in-Some-clause-ok g c = λ clock message is.
 pub returns-in-Some-clause-err : goal.returns-in-Some-clause-err
 returns-in-Some-clause-err g c = λ clock message is.
     let outside = g.D.Desk.outside in
-    let fit : AreBytes (text_of c.in-Some.said) = subst AreBytes c.text-text.ensures c.are_bytes.ensures in
+    let fit : AreBytes (text_of_said c.in-Some.said) = subst AreBytes c.text-text.ensures c.are_bytes.ensures in
     let text : on Wire (entry_text 66 c.text-text.result.now) ≡ said_message_text message =
     ap (λ (l : List ℕ). on Wire (entry_text 66 l)) c.text-text.ensures
     ∙ said_text c.said_bytes.ensures.written clock c.args.said c.in-Some.said message c.in-Some.is fit is

@@ -1,6 +1,6 @@
 use Rattle.std.proofs.lemmas.Result.{on_err_weaker}
 use Rattle.h263_planes.specs.Lent.{picture as lent}
-use Rattle.call_report.specs.View.{text_of}
+use Rattle.call_report.specs.View.{line_text}
 use Rattle.recv_command.proofs.Showing.{cut_line, cut_message, cut_picture, on_err}
 use Rattle.recv_command.proofs.parts.show.Goals as goal
 
@@ -18,7 +18,7 @@ returns-in_err-put_line-clause-err g c = λ clock message is.
     (cut_line c.turn_laws.ensures c.args.played.number c.args.played.mark (lent c.args.picture) message
     (outside c.args.desk.now).written (outside c.put_picture.new.desk).written (outside c.put_line.new.desk).written
     c.in_ok-put_picture.ensures.ok
-    (text_of c.picture_line-line.result) c.picture_line-line.ensures c.in_err-put_line.ensures.err)
+    (line_text c.picture_line-line.result) c.picture_line-line.ensures c.in_err-put_line.ensures.err)
 
 pub returns-clause-err : goal.returns-clause-err
 returns-clause-err g c = λ clock message is.
@@ -27,6 +27,6 @@ returns-clause-err g c = λ clock message is.
     (cut_message c.turn_laws.ensures c.args.played.number c.args.played.mark (lent c.args.picture) message
     (outside c.args.desk.now).written (outside c.put_picture.new.desk).written (outside c.put_line.new.desk).written
     c.in_ok-put_picture.ensures.ok
-    (text_of c.picture_line-line.result) c.picture_line-line.ensures (outside c.say.new.desk).written
+    (line_text c.picture_line-line.result) c.picture_line-line.ensures (outside c.say.new.desk).written
     c.in_ok-put_line.ensures.ok)
     (c.say.ensures.err clock message is)

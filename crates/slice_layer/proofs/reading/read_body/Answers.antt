@@ -4,7 +4,7 @@ use Rattle.std.proofs.lemmas.List.{get_or-set_same}
 use Rattle.h263_types.specs.declared.blocks.Mb.TheVariants.{Skip}
 use Rattle.std.proofs.lemmas.Result.{err_from_is_err_and}
 use Rattle.h263_types.specs.Sizes.{mbs_of}
-use Rattle.slice_layer.specs.Text.{numbered}
+use Rattle.slice_layer.specs.Text.{first_with}
 use Rattle.slice_layer.proofs.Steps.{none_yet, with_next, with_none, past_last, none_there, found, slice_in, others}
 use Rattle.slice_layer.proofs.reading.read_body.Goals as goal
 
@@ -14,7 +14,8 @@ mbs-init c = none_yet c.args.header.now c.args.first c.args.quant c.args.out.now
 
 pub returns-then-at-mbs-clause-exact : goal.returns-then-at-mbs-clause-exact
 returns-then-at-mbs-clause-exact c =
-    rw (c.at-then-at-mbs.ensures, c.at.ensures) (ap (numbered c.args.first) (past_last _ _ _ _ _ _ _ _ _ c.mbs.invariant
+    rw (c.at-then-at-mbs.ensures, c.at.ensures)
+    (ap (first_with c.args.first) (past_last _ _ _ _ _ _ _ _ _ c.mbs.invariant
     (c.if-at-mbs.true ∙ c.mbs-in-mbs.ensures) (sym c.mbs-test.ensures)))
 
 pub returns-in_err-read_next-clause-exact : goal.returns-in_err-read_next-clause-exact
@@ -26,7 +27,7 @@ returns-in_err-read_next-clause-exact c =
       c.if-at-mbs.false,
       c.mbs-in-mbs.ensures,
     ) in
-    rw (p.1, p.2) (ap (numbered c.args.first) (with_none _ _ _ _ _ _ _ _ _ _ c.mbs.invariant inside
+    rw (p.1, p.2) (ap (first_with c.args.first) (with_none _ _ _ _ _ _ _ _ _ _ c.mbs.invariant inside
     (sym c.mbs-test.ensures) c.in_err-read_next.ensures.reads))
 
 pub mbs-preserved : goal.mbs-preserved
@@ -51,11 +52,11 @@ mbs-preserved c =
 pub returns-then-at-first-clause-exact : goal.returns-then-at-first-clause-exact
 returns-then-at-first-clause-exact c =
     rw (c.at-then-at-first-2.ensures, c.at-then-at-first.ensures)
-    (ap (numbered c.args.first) (none_there _ _ _ _ _ _ _ _ _ c.mbs.invariant c.if-at-first.true
+    (ap (first_with c.args.first) (none_there _ _ _ _ _ _ _ _ _ c.mbs.invariant c.if-at-first.true
     (sym c.mbs-test.ensures)))
 
 pub returns-clause-exact : goal.returns-clause-exact
-returns-clause-exact c = ap (numbered c.args.first) (found _ _ _ _ _ _ _ _ _ c.mbs.invariant c.if-at-first.false
+returns-clause-exact c = ap (first_with c.args.first) (found _ _ _ _ _ _ _ _ _ c.mbs.invariant c.if-at-first.false
     (sym c.mbs-test.ensures))
 
 pub returns-clause-range : goal.returns-clause-range

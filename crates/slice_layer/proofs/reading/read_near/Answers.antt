@@ -3,12 +3,12 @@ use Rattle.h263_types.specs.declared.Kind.{Kind}
 use Rattle.h263_types.specs.declared.Kind.TheVariants as kinds
 use Rattle.h263_types.specs.declared.blocks.Mb.TheVariants.{Skip}
 use Rattle.h263_types.specs.Blocks.{IsOfKind}
-use Rattle.macroblock_layer.specs.Text.{is_skipped}
+use Rattle.macroblock_layer.specs.Text.{begins_skipped}
 use Rattle.slice_layer.proofs.Ranges.{next_within}
 use Rattle.slice_layer.proofs.reading.read_near.Goals as goal
 
 -- nothing is skipped in I
-of_kind : (kind : Kind) (bits : List Bool) → is_skipped kind bits ≡ true → IsOfKind kind Skip
+of_kind : (kind : Kind) (bits : List Bool) → begins_skipped kind bits ≡ true → IsOfKind kind Skip
 of_kind kinds.I bits e = absurd cc
 of_kind kinds.P bits e = tt
 

@@ -1,7 +1,7 @@
 use Rattle.std.proofs.Common.{◌∙◌}
 use Rattle.h263_types.specs.declared.params.Params.{Params}
 use Rattle.h263_types.specs.Params.{IsParams}
-use Rattle.call_decoding.specs.Rules.{flags_in, rules_of}
+use Rattle.call_decoding.specs.Rules.{flags_in_version, rules_of}
 use Rattle.receiver_end.specs.Decoding.{decoding}
 use Rattle.call_encoding.specs.Messages.{read_message}
 use Rattle.stream_audit.specs.Logs.{of_version}
@@ -10,7 +10,8 @@ use Rattle.stream_audit.proofs.laws.audited_streams.Goals as goal
 
 pub returns-clause-verdict : goal.returns-clause-verdict
 returns-clause-verdict c p version past =
-    c.flags_are_not_judged.ensures (decoding p.format) (read_message p.clock) (rules_of p) (flags_in version) past
+    c.flags_are_not_judged.ensures (decoding p.format) (read_message p.clock) (rules_of p) (flags_in_version version)
+    past
 
 pub returns-clause-audited : goal.returns-clause-audited
 returns-clause-audited c p in_range version low high log count approved =
@@ -33,4 +34,4 @@ returns-clause-audited c p in_range version low high log count approved =
     (c.are_rules.ensures q fits)
     (reads_in_period q (λ s bytes. c.exact_text.ensures.read p.format s bytes))
     log count (c.flags_are_not_judged.ensures (decoding p.format) (read_message p.clock) (rules_of p)
-    (flags_in version) log ∙ approved)
+    (flags_in_version version) log ∙ approved)

@@ -1,6 +1,6 @@
 use Rattle.std.proofs.Common.{◌≡◌}
-use Rattle.packet_cutter.specs.Cutting.{format_of}
+use Rattle.packet_cutter.specs.Cutting.{cut_format}
 use Rattle.test_layers.proofs.packet_cutter_rows.cut.Given as goal
 
 abbrev pub invariant-pictures : goal.invariant-pictures
-invariant-pictures l = format_of l.cutter ≡ l.format
+invariant-pictures l = cut_format l.cutter ≡ l.format

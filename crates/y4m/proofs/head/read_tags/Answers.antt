@@ -3,7 +3,7 @@ use Rattle.std.proofs.Common.{◌≡◌, ℕ, ◌+◌, List, ◌∷◌, Option, 
 use Rattle.y4m.specs.declared.head.Sizes.{Sizes}
 use Rattle.y4m.specs.declared.fault.Y4mFault.{Y4mFault}
 use Rattle.y4m.specs.Line.{Tag}
-use Rattle.y4m.specs.Head.{width_in, height_in, tags_fault, last_in, or_else}
+use Rattle.y4m.specs.Head.{width_tagged, height_tagged, tags_fault, last_in, or_else}
 use Rattle.y4m.proofs.Results.{err_gives}
 use Rattle.y4m.proofs.Tags.{tags_at, tags_none, tags_some, or_else-or_else}
 use Rattle.y4m.proofs.head.read_tags.Goals as goal
@@ -33,14 +33,16 @@ loop-at-preserved c =
           record {
             fault = ap (λ (o : Option Y4mFault). or_else o (tags_fault rest)) (sym w.in_ok-check_tag.ensures)
                 ∙ ap tags_fault (sym e) ∙ inv.fault;
-            width = ap (λ (o : Option ℕ). or_else (last_in width_in rest) o) (ap (λ (s : Sizes). s.width) w.sizes-is
+            width = ap (λ (o : Option ℕ). or_else (last_in width_tagged rest) o) (ap (λ (s : Sizes). s.width) w.sizes-is
                 ∙ w.note.ensures.width)
-                ∙ sym (or_else-or_else (last_in width_in rest) (width_in text) c.loop-at.sizes.width)
-                ∙ ap (λ (tags : List Tag). or_else (last_in width_in tags) c.loop-at.sizes.width) (sym e) ∙ inv.width;
-            height = ap (λ (o : Option ℕ). or_else (last_in height_in rest) o) (ap (λ (s : Sizes). s.height) w.sizes-is
+                ∙ sym (or_else-or_else (last_in width_tagged rest) (width_tagged text) c.loop-at.sizes.width)
+                ∙ ap (λ (tags : List Tag). or_else (last_in width_tagged tags) c.loop-at.sizes.width) (sym e)
+                ∙ inv.width;
+            height = ap (λ (o : Option ℕ). or_else (last_in height_tagged rest) o)
+                (ap (λ (s : Sizes). s.height) w.sizes-is
                 ∙ w.note.ensures.height)
-                ∙ sym (or_else-or_else (last_in height_in rest) (height_in text) c.loop-at.sizes.height)
-                ∙ ap (λ (tags : List Tag). or_else (last_in height_in tags) c.loop-at.sizes.height) (sym e)
+                ∙ sym (or_else-or_else (last_in height_tagged rest) (height_tagged text) c.loop-at.sizes.height)
+                ∙ ap (λ (tags : List Tag). or_else (last_in height_tagged tags) c.loop-at.sizes.height) (sym e)
                 ∙ inv.height;
           })
       | in_default w ↦
@@ -48,7 +50,7 @@ loop-at-preserved c =
           in
           record {
             fault = ap tags_fault (sym e) ∙ inv.fault;
-            width = (λ j. or_else (last_in width_in (sym e j)) ((w.sizes-is j).width)) ∙ inv.width;
-            height = (λ j. or_else (last_in height_in (sym e j)) ((w.sizes-is j).height)) ∙ inv.height;
+            width = (λ j. or_else (last_in width_tagged (sym e j)) ((w.sizes-is j).width)) ∙ inv.width;
+            height = (λ j. or_else (last_in height_tagged (sym e j)) ((w.sizes-is j).height)) ∙ inv.height;
           })
     ]

@@ -2,8 +2,8 @@
 use Rattle.std.proofs.Common.{◌≡◌, ℕ, ◌+◌, ◌-◌, ◌<◌, ◌≤◌, ◌++◌, max, List, length, take, drop, Some, sym, ap, subst, ◌∙◌, arith, length-take, length-drop, length-append, take-take}
 use Rattle.std.proofs.lemmas.List.{drop-drop, take-append-le}
 use Rattle.h263_outside.specs.declared.desk.Role.TheVariants.{Video}
-use Rattle.y4m.specs.Line.{NoNewline}
-use Rattle.y4m.specs.Planes.{IsCut}
+use Rattle.h263_outside.specs.Lines.{NoNewline}
+use Rattle.y4m.specs.Planes.{IsVideoCut}
 use Rattle.y4m.proofs.Newlines.{none_in, ends_within, ends_all, goes_on, gone_is, cut_past}
 use Rattle.y4m.proofs.Results.{after_any}
 use Rattle.y4m.proofs.input.read_line.Goals as goal
@@ -80,7 +80,7 @@ returns-in_err-more-clause-cut g c = λ left told.
     ∙ c.in_default.is) in
     let now = (g.D.Desk.outside c.read_rest.new.desk).left Video in
     after_any c.from_residual-in_err-more.result
-    (subst (λ (n : ℕ). IsCut n left now) all (cut_past left begun now (subst NoNewline same none)
+    (subst (λ (n : ℕ). IsVideoCut n left now) all (cut_past left begun now (subst NoNewline same none)
     (c.in_err-more.ensures.cut (drop begun left) h.1)))
 
 pub returns-clause-told : goal.returns-clause-told

@@ -2,7 +2,8 @@ use Rattle.std.proofs.Common.{◌≡◌, ◌≢◌, ℕ, ◌-◌, ◌++◌, List
 use Rattle.h263_outside.specs.Desk.{OnlyReads}
 use Rattle.h263_outside.specs.declared.desk.Role.{Role}
 use Rattle.h263_outside.specs.declared.desk.Role.TheVariants.{Video}
-use Rattle.y4m.specs.Line.{NoNewline, line_within}
+use Rattle.h263_outside.specs.Lines.{NoNewline}
+use Rattle.y4m.specs.Line.{line_within}
 use Rattle.y4m.proofs.input.read_rest.Given as goal
 
 abbrev pub invariant-loop-i : goal.invariant-loop-i

@@ -9,7 +9,7 @@ use Rattle.h263_types.specs.declared.pace.FixedPace.{FixedPace}
 use Rattle.h263_planes.specs.Layout.{picture_of}
 use Rattle.h263_planes.specs.Lent.{picture}
 use Rattle.h263_planes.specs.Picture.{Picture}
-use Rattle.y4m.specs.Reader.{Moves}
+use Rattle.y4m.specs.Reader.{MovesVideo}
 use Rattle.y4m.specs.Frame.{frame_size}
 use Rattle.loss_trace.specs.declared.fault.TraceFault.TheVariants.{NoFrame}
 use Rattle.call_report.specs.declared.status.Status.TheVariants.{TraceRefused}
@@ -90,7 +90,7 @@ returns g c =
     let out = c.frame.new.out in
     let send = c.send in
     let sender = send.new.sender in
-    let moves = subst (λ (b : Bool). Moves (Ok b) x.video c.frame.new.self) c.if-not-branch.false
+    let moves = subst (λ (b : Bool). MovesVideo (Ok b) x.video c.frame.new.self) c.if-not-branch.false
     c.in_ok-frame.ensures.moves in
     let link : Link = record x.link { frame = with_items x.link.frame out; network = send.new.self } in
     let long : length link.frame.items ≡ size_of_picture p.format =

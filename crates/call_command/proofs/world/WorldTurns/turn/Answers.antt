@@ -7,7 +7,7 @@ use Rattle.h263_outside.specs.declared.desk.Role.TheVariants.{Video, Events}
 use Rattle.h263_planes.specs.Layout.{picture_of}
 use Rattle.h263_planes.specs.Lent.{picture}
 use Rattle.h263_planes.specs.Picture.{Picture}
-use Rattle.y4m.specs.Reader.{Moves}
+use Rattle.y4m.specs.Reader.{MovesVideo}
 use Rattle.y4m.specs.Frame.{frame_size}
 use Rattle.call_report.specs.declared.status.Status.TheVariants.{Ok as Fine}
 use Rattle.call_report.specs.Status.{phase, video_stop}
@@ -176,7 +176,7 @@ returns-clause-gives g c = λ s inputs k told.
     let receiver = c.play_next.new.receiver in
     let network = c.play_next.new.network in
     let link : Link = record x.link { frame = with_items x.link.frame out; network = network } in
-    let moves = subst (λ (b : Bool). Moves (Ok b) x.video c.frame.new.self) c.if-not-branch.false
+    let moves = subst (λ (b : Bool). MovesVideo (Ok b) x.video c.frame.new.self) c.if-not-branch.false
     c.in_ok-frame.ensures.moves in
     let level = r.level plain in
     let here = call_state_of x s.before s.frames s.past in

@@ -1,5 +1,5 @@
 use Rattle.std.proofs.Common.{◌≡◌, ap, arith, decimal, length, length-append}
-use Rattle.call_report.specs.View.{text_of}
+use Rattle.call_report.specs.View.{line_text}
 use Rattle.call_report.proofs.Digits.{decimal_short, gap_short}
 use Rattle.call_report.proofs.line.Line.pair.Goals as goal
 
@@ -10,7 +10,7 @@ returns-clause-len c =
     omega (
       arith,
       gapped,
-      gap_short (text_of c.args.self.now),
+      gap_short (line_text c.args.self.now),
       c.put.ensures.len,
       c.put-2.ensures.len,
       c.put-3.ensures.len,

@@ -1,7 +1,7 @@
 -- A packet of the call's pictures is taken by its stream, or costs its budget and is dropped.
 use Rattle.std.proofs.Common.{Bool, true, false, ap, subst, ◌∙◌}
 use Rattle.stream_choice.specs.declared.streams.Taker.{Taker}
-use Rattle.session_runs.specs.Lines.{run_of}
+use Rattle.session_runs.specs.Lines.{taker_run}
 use Rattle.session_runs.specs.Kept.{config_in}
 use Rattle.call_session.specs.declared.verdict.Arrived.{Arrived}
 use Rattle.call_session.specs.Sessions.{Outcome, after_grant, after_seen, asked_for, outcome_of_grant, outcome_of_seen}
@@ -21,7 +21,7 @@ returns-then-grants-clause-answer c = λ st s.
     (taken_by r seen st t s c.taker-taker.ensures)
     (subst (λ (b : Bool). IsVerdict r.settings.params.clock verdict (outcome_of_grant k seen t own b st))
     (looked r t st c.grants.result true s (c.grants.ensures.answer st.asked s.asked) c.if-grants.true)
-    (subst (λ (o : Outcome). IsVerdict r.settings.params.clock verdict o) (still k seen t (run_of t) own st)
+    (subst (λ (o : Outcome). IsVerdict r.settings.params.clock verdict o) (still k seen t (taker_run t) own st)
     (c.follow_granted.ensures.answer (asked_for t st) at)))
 
 pub returns-then-grants-clause-told : goal.returns-then-grants-clause-told

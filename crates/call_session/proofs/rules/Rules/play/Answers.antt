@@ -1,7 +1,7 @@
 -- A picture is played where one is due, and nothing changes where none is.
 use Rattle.std.proofs.Common.{ℕ, Some, None, ap, subst, ◌∙◌}
 use Rattle.session_intake.specs.declared.counts.Counts.{Counts}
-use Rattle.session_intake.specs.Counts.{after_play}
+use Rattle.session_intake.specs.Counts.{counts_after_play}
 use Rattle.session_runs.specs.Kept.{config_in}
 use Rattle.session_runs.specs.Following.{after_play_of, run_due}
 use Rattle.session_runs.specs.Followed.{ArePlayed, FollowsStand}
@@ -49,6 +49,6 @@ returns-in-Some-clause-stands c = λ st s.
       asked = s.asked;
       rivals = s.rivals;
       counts = c.play_of.ensures
-          ∙ ap (λ (x : Counts). after_play c.in-Some.run' c.in-Some.played.mark x) s.counts
+          ∙ ap (λ (x : Counts). counts_after_play c.in-Some.run' c.in-Some.played.mark x) s.counts
           ∙ counted k st.follows (run_due k st.now st.follows) c.in-Some.run' c.in-Some.played st.counts a;
     }

@@ -7,15 +7,15 @@ use Rattle.h263_planes.specs.Lent.{picture as lent}
 use Rattle.picture_header.specs.Ranges.{AreMessages}
 use Rattle.back_messages.specs.declared.message.Message.{Message}
 use Rattle.call_encoding.specs.Frames.{Frame}
-use Rattle.call_encoding.specs.Messages.{marked}
+use Rattle.call_encoding.specs.Messages.{marked_message}
 use Rattle.duplex_call.specs.declared.queue.Carried.{Carried}
 use Rattle.duplex_call.specs.Duplex.{messages_at, other, way, with_capture}
-use Rattle.duplex_call.specs.Waiting.{last_four, placed}
+use Rattle.duplex_call.specs.Waiting.{last_four, in_four_places}
 use Rattle.one_way.specs.Both.{carrying}
 use Rattle.one_way.specs.Counts.{total_of}
 use Rattle.duplex_ends.specs.declared.party.PartyEnds.{PartyEnds}
-use Rattle.duplex_ends.specs.Bringing.{carried_in, message_in}
-use Rattle.duplex_ends.specs.Ways.{sides, told_by}
+use Rattle.duplex_ends.specs.Bringing.{carried_in, carried_message}
+use Rattle.duplex_ends.specs.Ways.{sides, carried_from}
 use Rattle.duplex_ends.proofs.Agreeing.{agree, ideally}
 use Rattle.duplex_ends.proofs.Captures.{frame, near_send, numbers, party_sent, said, same_messages, captured, waiting, waiting_fit}
 use Rattle.duplex_ends.proofs.Deliveries.{with_one}
@@ -31,23 +31,23 @@ send-number-requires-clause-back c =
     let w = way x e.ways in
     let v = way (other x) e.ways in
     let one = e.holds.own_holds in
-    let told = told_by (p (other x)) v in
-    let fit : AreMessages (p (other x)).clock (map message_in (last_four (drop w.loaded told))) =
+    let told = carried_from (p (other x)) v in
+    let fit : AreMessages (p (other x)).clock (map carried_message (last_four (drop w.loaded told))) =
     waiting_fit (p (other x)).clock told w.loaded ((c.said_laws.ensures (p (other x)) (e.holds.in_range (other x))).fit
     v)
     in
     let is : take c.put_messages-count.result c.put_messages-count.new.messages
-    ≡ map message_in (last_four (drop w.loaded told)) =
+    ≡ map carried_message (last_four (drop w.loaded told)) =
     c.put_messages-count.ensures.messages
-    ∙ ap (λ (l : List (Option Carried)). map message_in (carried_in l))
+    ∙ ap (λ (l : List (Option Carried)). map carried_message (carried_in l))
     (c.load-header.ensures.places (drop w.loaded told) one.waits)
-    ∙ ap (λ (l : List Carried). map message_in l) (carried_placed (last_four (drop w.loaded told))
+    ∙ ap (λ (l : List Carried). map carried_message l) (carried_placed (last_four (drop w.loaded told))
     (last_few (drop w.loaded told)))
     in
     let clock : (p (other x)).clock ≡ c.args.self.now.sender.params.clock = sym e.holds.clock
     ∙ ap (λ (q : Params). q.clock) (sym one.done.joined.sender_params) in
     subst (λ (l : List Message). AreMessages c.args.self.now.sender.params.clock l) (sym is)
-    (subst (λ (clock : Clock). AreMessages clock (map message_in (last_four (drop w.loaded told)))) clock fit)
+    (subst (λ (clock : Clock). AreMessages clock (map carried_message (last_four (drop w.loaded told)))) clock fit)
 
 pub send-number-requires-clause-frame : goal.send-number-requires-clause-frame
 send-number-requires-clause-frame c =
@@ -67,16 +67,17 @@ returns-clause-holds c = λ p x far ways left h may.
     let two = h.far_holds in
     let own = c.args.self.now in
     let picture = lent c.args.frame in
-    let told = told_by Q v in
+    let told = carried_from Q v in
     let next = captured P Q own w v one picture in
     let new_frame = frame P Q own w v one picture in
     let messages = waiting P Q own w v one picture in
-    let loaded : c.load-header.result ≡ placed messages = c.load-header.ensures.places (drop w.loaded told) one.waits in
+    let loaded : c.load-header.result ≡ in_four_places messages = c.load-header.ensures.places
+    (drop w.loaded told) one.waits in
     let back : take c.put_messages-count.result c.put_messages-count.new.messages
-    ≡ map marked (messages_at (said P Q own w v one picture) (numbers P Q own w v one picture)) =
+    ≡ map marked_message (messages_at (said P Q own w v one picture) (numbers P Q own w v one picture)) =
     c.put_messages-count.ensures.messages
-    ∙ ap (λ (l : List (Option Carried)). map message_in (carried_in l)) loaded
-    ∙ ap (λ (l : List Carried). map message_in l) (carried_placed messages (last_few (drop w.loaded told)))
+    ∙ ap (λ (l : List (Option Carried)). map carried_message (carried_in l)) loaded
+    ∙ ap (λ (l : List Carried). map carried_message l) (carried_placed messages (last_few (drop w.loaded told)))
     ∙ sym (same_messages P Q own w v one picture)
     in
     let at : slice_get next.frames own.sender.sent

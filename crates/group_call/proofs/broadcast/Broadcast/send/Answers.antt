@@ -5,8 +5,8 @@ use Rattle.h263_types.specs.Sizes.{mbs_of}
 use Rattle.h263_types.specs.declared.params.Params.{Params}
 use Rattle.h263_types.specs.declared.pace.FixedPace.{FixedPace}
 use Rattle.h263_planes.specs.Lent.{picture}
-use Rattle.call_rings.specs.Keeping.{most_of, room_of}
-use Rattle.call_rings.specs.Parts.{size_of}
+use Rattle.call_rings.specs.Keeping.{most_of, ring_room}
+use Rattle.call_rings.specs.Parts.{total_size}
 use Rattle.sender_end.specs.Stands.{Describes}
 use Rattle.one_way.specs.Both.{bare, steady}
 use Rattle.one_way.specs.References.{AreNoted}
@@ -31,12 +31,12 @@ keep_packets-requires-clause-room c =
       omega (arith, h.quant, h.in_range.quant_high),
     ) in
     let room = newest_room p (c.packet_laws.ensures p in_range) quant frame run ranged in
-    let room_is : room_of c.args.self.now.packets ≡ 1200 * mbs_of p.format = h.room
+    let room_is : ring_room c.args.self.now.packets ≡ 1200 * mbs_of p.format = h.room
     ∙ ap (λ (q : Params). 1200 * mbs_of q.format) (sym params) in
     let most_is : most_of c.args.self.now.packets ≡ mbs_of p.format = h.most
     ∙ ap (λ (q : Params). mbs_of q.format) (sym params) in
     record {
-      bytes = subst (λ (l : List (List ℕ)). size_of l ≤ room_of c.args.self.now.packets) (sym is)
+      bytes = subst (λ (l : List (List ℕ)). total_size l ≤ ring_room c.args.self.now.packets) (sym is)
           (omega (arith, room.0, room_is));
       count = subst (λ (l : List (List ℕ)). length l ≤ most_of c.args.self.now.packets) (sym is)
           (omega (arith, room.1, most_is));

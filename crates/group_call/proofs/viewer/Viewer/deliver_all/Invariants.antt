@@ -2,7 +2,7 @@ use Rattle.std.proofs.Common.{◌≡◌, ◌+◌, ◌≤◌, length}
 use Rattle.h263_types.specs.declared.params.Params.{Params}
 use Rattle.group_sender.specs.Holding.{Groups}
 use Rattle.group_call.specs.Holding.{HoldsBroadcast, HoldsViewer, IsCast, told_count}
-use Rattle.group_call.specs.Viewing.{ViewerRun, packets_in, view_places}
+use Rattle.group_call.specs.Viewing.{ViewerRun, coded_packets, view_places}
 use Rattle.group_call.proofs.viewer.Viewer.deliver_all.Given as goal
 
 -- the packets below `place` have reached it, and what was said of them is kept
@@ -14,5 +14,5 @@ invariant-packets l = record {
   tally : l.self.tally ≡ l.fn.self.tally;
   holds : (p : Params) (run : Groups) (view : ViewerRun) → HoldsBroadcast p l.cast run
       → IsCast l.cast (length run.coded) l.number → HoldsViewer p l.fn.self view
-      → HoldsViewer p l.self (view_places p (packets_in p run.coded l.number) l.number l.place view);
+      → HoldsViewer p l.self (view_places p (coded_packets p run.coded l.number) l.number l.place view);
 }

@@ -7,7 +7,7 @@ use Rattle.call_model.specs.JoinedRun.{SaidMessage, said_at_play}
 use Rattle.call_model.specs.Receiving.{played_shown}
 use Rattle.call_decoding.specs.Rules.{rules_of}
 use Rattle.coded_call.specs.Coding.{coding}
-use Rattle.receiver_end.specs.Answers.{IsMessage, IsPlayed}
+use Rattle.receiver_end.specs.Answers.{SaysMessage, IsPlayed}
 use Rattle.receiver_end.specs.Decoding.{decoding}
 use Rattle.receiver_end.specs.State.{mark_after, message_after, run_of}
 use Rattle.one_way.specs.Counts.{AreCounted}
@@ -37,8 +37,8 @@ returns-clause-holds c = λ p view h.
     let number : c.play-played.result.number ≡ run.played =
     c.play-played.ensures.run view.entries h.receives ∙ ap (λ (q : Params). (run_of q view.entries).played) h.params
     in
-    let says : IsMessage p.clock c.as_bytes.result (message_after p view.entries) =
-    subst (λ (o : Option Said). IsMessage p.clock o (message_after p view.entries)) (sym c.as_bytes.ensures.same)
+    let says : SaysMessage p.clock c.as_bytes.result (message_after p view.entries) =
+    subst (λ (o : Option Said). SaysMessage p.clock o (message_after p view.entries)) (sym c.as_bytes.ensures.same)
     told.message_is
     in
     let is : told_by c.play-played.result.number c.as_bytes.result ≡ said_at_play (coding p) (rules_of p) run =

@@ -7,7 +7,7 @@ use Rattle.h263_types.specs.Sizes.{size_of_picture}
 use Rattle.h263_types.specs.declared.params.Params.{Params}
 use Rattle.h263_planes.specs.Layout.{picture_of}
 use Rattle.h263_planes.specs.Lent.{picture}
-use Rattle.y4m.specs.Reader.{Moves}
+use Rattle.y4m.specs.Reader.{MovesVideo}
 use Rattle.loss_trace.specs.declared.fault.TraceFault.TheVariants.{NoFrame}
 use Rattle.call_report.specs.declared.status.Status.TheVariants.{TraceRefused}
 use Rattle.call_report.specs.Status.{video_stop}
@@ -76,7 +76,7 @@ returns-clause-takes g c =
     let r = c.requires in
     let out = c.frame.new.out in
     let send = c.send-number in
-    let moves = subst (λ (b : Bool). Moves (Ok b) m.video c.frame.new.self) c.if-not-branch.false
+    let moves = subst (λ (b : Bool). MovesVideo (Ok b) m.video c.frame.new.self) c.if-not-branch.false
     c.in_ok-frame.ensures.moves in
     let now : Room = record m { video = c.frame.new.self; frame = with_items m.frame out; cast = send.new.self } in
     let long : length now.frame.items ≡ size_of_picture m.params.format =

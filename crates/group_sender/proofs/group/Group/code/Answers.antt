@@ -14,7 +14,7 @@ use Rattle.call_decoding.specs.Samples.{pictures}
 use Rattle.call_decoding.specs.Styles.{Style}
 use Rattle.call_encoding.specs.Encoding.{encoding}
 use Rattle.call_encoding.specs.Frames.{Frame}
-use Rattle.sender_end.specs.Stands.{Describes, Holds, Run, next_with}
+use Rattle.sender_end.specs.Stands.{Describes, Holds, SentRun, next_with}
 use Rattle.group_sender.specs.declared.member.Member.{Member}
 use Rattle.group_sender.specs.Parties.{all_have}
 use Rattle.group_sender.specs.Running.{newest_of_all}
@@ -60,7 +60,7 @@ next_is g c run held =
     (chosen_is (rules_of p) (depth_at run.coded) (all_have run.parties) (length run.coded))
 
 -- the run of its sender with one more picture
-abbrev with_one : Groups → CodedPicture Style Mb Picture → Run
+abbrev with_one : Groups → CodedPicture Style Mb Picture → SentRun
 with_one run x = pictures_alone (record run { coded = run.coded ++ x ∷ [] })
 
 pub returns-clause-holds : goal.returns-clause-holds

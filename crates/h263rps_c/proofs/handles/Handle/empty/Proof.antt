@@ -21,7 +21,7 @@ use Rattle.std.specs.declared.option.Option.{Option}
 use Rattle.core.specs.declared.option.Option.TheVariants.{None}
 use Rattle.std.proofs.alloc.Global.TheLaws as heap_laws
 use Rattle.std.proofs.raw_atomic.Walks.{proved_at, leaves}
-use Rattle.h263rps_c.specs.Holds.{holds}
+use Rattle.h263rps_c.specs.Holds.{holds_end}
 use Rattle.h263rps_c.specs.contracts.ends.End as held
 use Rattle.h263rps_c.proofs.LooseValues.{both}
 use Rattle.h263rps_c.proofs.HandleValues.{Z, handle_in, al, handle_good}
@@ -53,7 +53,7 @@ empty_spec 𝓤 𝓛 𝓜 𝓡 wired =
     (sym (λ i. ep i ++ (eh i ++ []))) (id⊢ 𝓤 (Run (ptr_val p ∷ h ∷ [])))) $
     enter ! 𝓣.C 𝓣.Λ fn (ptr_val p ∷ h ∷ []) Post $ alloc_all ! (λ l. pass_all ! refl (Ptr-Good p, (fits, tt)) $
     sets ! (agg ! (and_then ! (get ! refl) (and_then ! (get ! refl) (no_more !)))) refl typed $
-    nothing ! $ use1 𝓛 (‵ (holds a p None)) (id⊢ 𝓤 _) $ handle_in ! p h a none $
+    nothing ! $ use1 𝓛 (‵ (holds_end a p None)) (id⊢ 𝓤 _) $ handle_in ! p h a none $
     use0 𝓛 (raw (fact 𝓤 (none ≡ none))) (fact_i 𝓤 (none ≡ none) (emp 𝓤) refl) $ nothing ! $ nothing ! $ fjoin ! $
     nothing ! $ fjoin ! $
     returns ! (look_at ! 0 refl) $ free_all ! refl $ keep ! (4 ∷ 0 ∷ 2 ∷ 1 ∷ []) $ by !

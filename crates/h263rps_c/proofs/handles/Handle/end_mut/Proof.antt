@@ -30,8 +30,8 @@ use denote.Triple.Walked.{says, Stays, stay_dropped, walk_of, ends_at, Goes-spen
 use Rattle.std.specs.Prelude.{IsSome, Some}
 use Rattle.std.specs.contracts.impls.GlobalAllocator.TheImpl.{ghosts}
 use Rattle.std.proofs.raw_atomic.Walks.{proved}
-use Rattle.h263rps_c.specs.Holds.{holds}
-use Rattle.h263rps_c.specs.Lending.{with_end}
+use Rattle.h263rps_c.specs.Holds.{holds_end}
+use Rattle.h263rps_c.specs.Lending.{handle_with_end}
 use Rattle.h263rps_c.specs.contracts.ends.End as held
 use Rattle.h263rps_c.proofs.LooseValues.{both}
 use Rattle.h263rps_c.proofs.HandleValues.{Z, Hd, handle_in, handle_out, in_it}
@@ -72,23 +72,24 @@ module _ {M : Type 1} {𝓤 : Ura M} (𝓛 : Logic 𝓤) (at_mem : Memory → SP
         (cell_at full_share Hd.mir (both (vptr b o) h ∷ []) rb ro)
 
     back : d.at ≡ block_ptr b o → (w : R.Denot)
-        → ent 𝓤 (sep 𝓤 (sem 𝓛 ((mem R).own_at w b o)) (sem 𝓛 Rest)) (sem 𝓛 ((mem Hd).own_at (with_end d w) rb ro))
+        → ent 𝓤 (sep 𝓤 (sem 𝓛 ((mem R).own_at w b o)) (sem 𝓛 Rest))
+        (sem 𝓛 ((mem Hd).own_at (handle_with_end d w) rb ro))
     unfolding part_of
     back e w =
         qed 𝓛 (‵ (part_at R full_share w b o) ∷ ‵ Rest ∷ []) ∵ move ! (1 ∷ []) $ fsplit ! $ fsplit ! $ move !
         (3 ∷ 0 ∷ []) $ fjoin ! $
-        rewrite ! 0 (λ (p : Ptr). ‵ (holds d.alloc p (Some w))) (sym e) refl $ rewrite ! 2
+        rewrite ! 0 (λ (p : Ptr). ‵ (holds_end d.alloc p (Some w))) (sym e) refl $ rewrite ! 2
         (λ (p : Ptr). ‵ (cell_at full_share Hd.mir (both (ptr_val p) h ∷ []) rb ro)) (sym e) refl $
         handle_in ! d.at h d.alloc (Some w) $ move ! (1 ∷ 0 ∷ []) $ fjoin ! $
-        fpack ! (List Val) (λ us. fsep (cell_at full_share Hd.mir us rb ro) (Hd.own_val (with_end d w) us))
+        fpack ! (List Val) (λ us. fsep (cell_at full_share Hd.mir us rb ro) (Hd.own_val (handle_with_end d w) us))
         (both (ptr_val d.at) h ∷ []) $ done !
 
   exits : (v : Val) (r : MutBor R.Denot) → d.inside ≡ Some r.now
       → ent 𝓤 (sep 𝓤 (sem 𝓛 ((MutRef (named 0) κ R).own_val r (v ∷ [])))
-      (sep 𝓤 (A.lft κ q) (sem 𝓛 (follows Hd R γ r.ghost_name (with_end d))))) (Post v)
+      (sep 𝓤 (A.lft κ q) (sem 𝓛 (follows Hd R γ r.ghost_name (handle_with_end d))))) (Post v)
   exits v r e =
       qed 𝓛 (‵ ((MutRef (named 0) κ R).own_val r (v ∷ [])) ∷ ‵ (flft κ q) ∷ ‵
-      (follows Hd R γ r.ghost_name (with_end d)) ∷ []) ∵
+      (follows Hd R γ r.ghost_name (handle_with_end d)) ∷ []) ∵
       suffices ! _ (ends_at 𝓛 ended stayed c bound v r (tt, tt) (tt, tt)) $
       nothing ! $ nothing ! $ fjoin ! $ join ! $ nothing ! $ move ! (2 ∷ 0 ∷ []) $ join ! $ join ! $ frame ! $ says ! e
       $ done !
@@ -117,9 +118,11 @@ module _ {M : Type 1} {𝓤 : Ura M} (𝓛 : Logic 𝓤) (at_mem : Memory → SP
       sets_last ! (addr ! (through ! refl (stop !))) refl (tt, tt) $ exec ! C Λ En rest (at_ret En Post) $ sets !
       (of_opd ! (get ! refl)) refl (tt, tt) $
       move ! (1 ∷ 2 ∷ []) $ fjoin ! $ move ! (0 ∷ 2 ∷ []) $ fjoin ! $ move ! (2 ∷ 3 ∷ 4 ∷ 1 ∷ 0 ∷ []) $ group ! 5 $
-      use1 𝓛 (later (some (λ (δ : GName). raw (Part 𝓛 Hd R (with_end d) (named 0) κ q rb ro b o γ (sem 𝓛 (Rest b o h))
+      use1 𝓛 (later (some (λ (δ : GName). raw (Part 𝓛 Hd R (handle_with_end d) (named 0) κ q rb ro b o γ
+      (sem 𝓛 (Rest b o h))
       (back b o h e) x δ))))
-      (lends_Part 𝓛 Hd R (with_end d) (named 0) κ q rb ro b o γ (sem 𝓛 (Rest b o h)) (back b o h e) k k x) $ await ! tt
+      (lends_Part 𝓛 Hd R (handle_with_end d) (named 0) κ q rb ro b o γ (sem 𝓛 (Rest b o h)) (back b o h e) k k x) $
+      await ! tt
       $ pick ! (λ δ.
       returns ! (look_at ! 0 refl) $ free_all ! refl $ keep ! (0 ∷ []) $ by !
       (exits (vptr b o) (record { ref_ptr = (b, o); ghost_name = δ; now = x }) ei)))))))

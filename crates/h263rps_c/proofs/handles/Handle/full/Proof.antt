@@ -19,7 +19,7 @@ use Rattle.core.specs.declared.option.Option.TheVariants.{Some}
 use Rattle.std.proofs.alloc.Global.TheLaws as heap_laws
 use Rattle.std.specs.contracts.impls.GlobalAllocator.TheImpl.{ghosts}
 use Rattle.std.proofs.raw_atomic.Walks.{proved_at, leaves}
-use Rattle.h263rps_c.specs.Holds.{holds}
+use Rattle.h263rps_c.specs.Holds.{holds_end}
 use Rattle.h263rps_c.specs.contracts.ends.End as held
 use Rattle.h263rps_c.specs.contracts.handles.Loose as loose
 use Rattle.h263rps_c.proofs.LooseValues.{both, loose_good, loose_out}
@@ -51,7 +51,7 @@ full_spec 𝓤 𝓛 𝓜 𝓡 wired =
     (of_opd ! (get_in ! (fld ! refl (stop !)) (sub ! 1 refl (whole !)))) refl fits $
     sets ! (of_opd ! (get ! refl)) refl (tt, tt) $ sets !
     (agg ! (and_then ! (get ! refl) (and_then ! (get ! refl) (no_more !)))) refl typed $
-    use1 𝓛 (‵ (holds a (block_ptr b o) (Some v.value))) (id⊢ 𝓤 _) $ handle_in ! (block_ptr b o) h a (Some v.value) $
+    use1 𝓛 (‵ (holds_end a (block_ptr b o) (Some v.value))) (id⊢ 𝓤 _) $ handle_in ! (block_ptr b o) h a (Some v.value) $
     use0 𝓛 (raw (fact 𝓤 (Some v.value ≡ Some v.value))) (fact_i 𝓤 (Some v.value ≡ Some v.value) (emp 𝓤) refl) $ nothing
     ! $ nothing ! $ fjoin ! $
     returns ! (look_at ! 0 refl) $ free_all ! refl $ keep ! (4 ∷ 0 ∷ 2 ∷ 1 ∷ []) $ by !

@@ -5,7 +5,7 @@ use Rattle.h263_outside.specs.declared.desk.Role.{Role}
 use Rattle.h263_outside.specs.declared.desk.Role.TheVariants.{Events}
 use Rattle.event_logs.specs.declared.entry.Entry.TheVariants.{Packet}
 use Rattle.event_logs.specs.declared.fault.LogFault.TheVariants.{TooMany}
-use Rattle.event_logs.specs.Entry.{bytes_of}
+use Rattle.event_logs.specs.Entry.{entry_size}
 use Rattle.call_report.specs.Status.{log_stop}
 use Rattle.call_report.specs.declared.status.Status.TheVariants.{LogRefused}
 use Rattle.log_command.specs.Log.{LogStands, after_entry, log_step, refused_log}
@@ -65,7 +65,7 @@ returns-in_err-packet-in-Packet-clause-gives g c = λ s inputs stands told.
     let does = g.C.LogCommand.rules in
     let m = c.args.self.now in
     let len = c.in-Packet.len in
-    let size : c.len_of.result ≡ len = c.len_of.ensures ∙ ap bytes_of c.in-Packet.is in
+    let size : c.len_of.result ≡ len = c.len_of.ensures ∙ ap entry_size c.in-Packet.is in
     let bytes = take c.min-len.result c.deref.result.now in
     let e = entered does.side s m.reader c.next.new.self c.in-Some.at c.in-Some.entry (Packet len)
     (inputs Events) c.next.new.buf _ c.in_ok-at.field-0 stands.at stands.entries c.requires.side
@@ -91,7 +91,7 @@ returns-in_ok-packet-in-Packet-clause-gives g c = λ s inputs stands told.
     let does = g.C.LogCommand.rules in
     let m = c.args.self.now in
     let len = c.in-Packet.len in
-    let size : c.len_of.result ≡ len = c.len_of.ensures ∙ ap bytes_of c.in-Packet.is in
+    let size : c.len_of.result ≡ len = c.len_of.ensures ∙ ap entry_size c.in-Packet.is in
     let bytes = take c.min-len.result c.deref.result.now in
     let e = entered does.side s m.reader c.next.new.self c.in-Some.at c.in-Some.entry (Packet len)
     (inputs Events) c.next.new.buf _ c.in_ok-at.field-0 stands.at stands.entries c.requires.side
@@ -148,8 +148,8 @@ returns-in_err-other-in_default-entry-clause-gives g c = λ s inputs stands told
     in
     let entry = c.in-Some.entry in
     let bytes = take c.min-len.result c.deref.result.now in
-    let bytes_are : bytes ≡ take (bytes_of entry) (drop 3 (inputs Events)) =
-    front_is m.buffer c.deref.result.now c.next.new.buf _ (bytes_of entry) _ c.deref.ensures.value (c.next.auto.buf
+    let bytes_are : bytes ≡ take (entry_size entry) (drop 3 (inputs Events)) =
+    front_is m.buffer c.deref.result.now c.next.new.buf _ (entry_size entry) _ c.deref.ensures.value (c.next.auto.buf
     ∙ c.deref_mut.ensures.len) (c.min-len.ensures ∙ (λ i. min (c.len_of.ensures i) (c.len.ensures i))) e.bytes
     in
     let more : does.plays s.mind < 1048576 = subst (λ (n : ℕ). n < 1048576) (c.plays.ensures.is s.mind stands.mind)
@@ -159,7 +159,8 @@ returns-in_err-other-in_default-entry-clause-gives g c = λ s inputs stands told
     c.from_residual-in_err-other-in_default-entry.ensures.1 c.in_err-other-in_default-entry.ensures.kind
     (cut does c.turn_laws.ensures s inputs (outside c.args.desk.now) (outside c.next.new.desk) told
     c.next.ensures.others c.next.ensures.rest.written
-    (after_entry s (does.other s.mind bytes) (3 + bytes_of entry)) (3 + bytes_of entry) (does.other_text s.mind bytes)
+    (after_entry s (does.other s.mind bytes) (3 + entry_size entry)) (3 + entry_size entry)
+    (does.other_text s.mind bytes)
     (other_is does s inputs e.few entry c.in_default-entry.not-Packet e.is bytes bytes_are more)
     (outside c.other.new.desk) (c.in_err-other-in_default-entry.ensures.err s.mind stands.mind))
 
@@ -175,15 +176,16 @@ returns-in_ok-other-in_default-entry-clause-gives g c = λ s inputs stands told.
     in
     let entry = c.in-Some.entry in
     let bytes = take c.min-len.result c.deref.result.now in
-    let bytes_are : bytes ≡ take (bytes_of entry) (drop 3 (inputs Events)) =
-    front_is m.buffer c.deref.result.now c.next.new.buf _ (bytes_of entry) _ c.deref.ensures.value (c.next.auto.buf
+    let bytes_are : bytes ≡ take (entry_size entry) (drop 3 (inputs Events)) =
+    front_is m.buffer c.deref.result.now c.next.new.buf _ (entry_size entry) _ c.deref.ensures.value (c.next.auto.buf
     ∙ c.deref_mut.ensures.len) (c.min-len.ensures ∙ (λ i. min (c.len_of.ensures i) (c.len.ensures i))) e.bytes
     in
     let more : does.plays s.mind < 1048576 = subst (λ (n : ℕ). n < 1048576) (c.plays.ensures.is s.mind stands.mind)
     c.if-plays-ge-MAX_PLAYS.false in
     goes does c.turn_laws.ensures s inputs (outside c.args.desk.now) (outside c.next.new.desk) told
     c.next.ensures.others c.next.ensures.rest.written
-    (after_entry s (does.other s.mind bytes) (3 + bytes_of entry)) (3 + bytes_of entry) (does.other_text s.mind bytes)
+    (after_entry s (does.other s.mind bytes) (3 + entry_size entry)) (3 + entry_size entry)
+    (does.other_text s.mind bytes)
     (other_is does s inputs e.few entry c.in_default-entry.not-Packet e.is bytes bytes_are more)
     (outside c.other.new.desk)
     (LogStands g.C.LogCommand.stands (record {

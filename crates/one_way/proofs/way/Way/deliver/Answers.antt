@@ -4,7 +4,7 @@ use Rattle.std.specs.Prelude.{slice_get}
 use Rattle.std.specs.Option.{option_map, option_map_or}
 use Rattle.std.proofs.lemmas.List.{append-nil}
 use Rattle.back_messages.specs.declared.writing.Said.{Said}
-use Rattle.back_messages.specs.Said.{text_of}
+use Rattle.back_messages.specs.Said.{text_of_said}
 use Rattle.coded_call.specs.Bytes.{AreBytes}
 use Rattle.call_model.specs.JoinedRun.{SaidMessage, after_bytes}
 use Rattle.call_model.specs.Receiving.{heard}
@@ -12,7 +12,7 @@ use Rattle.call_model.specs.Sending as call
 use Rattle.call_decoding.specs.Rules.{rules_of}
 use Rattle.call_encoding.specs.Encoding.{encoding}
 use Rattle.coded_call.specs.Coding.{coding}
-use Rattle.receiver_end.specs.Answers.{IsMessage, said_by}
+use Rattle.receiver_end.specs.Answers.{SaysMessage, said_by}
 use Rattle.receiver_end.specs.Decoding.{decoding}
 use Rattle.one_way.specs.Both.{both_after, steady}
 use Rattle.one_way.specs.Network.{told_by}
@@ -27,7 +27,7 @@ pub returns-in_default-clause-holds : goal.returns-in_default-clause-holds
 returns-in_default-clause-holds c = λ p sender before frames past h among near.
     let coded = (both_after p (steady p) frames before past).sender.coded in
     let n = c.args.number in
-    let none : slice_get (call.packets_of (encoding p) (rules_of p) coded n) c.args.place ≡ None =
+    let none : slice_get (call.packets_at (encoding p) (rules_of p) coded n) c.args.place ≡ None =
     ap (λ (l : List (List ℕ)). slice_get l c.args.place) (sym (kept_is p c.args.self.now coded n h.packets among))
     ∙ sym (c.packet.ensures h.packets.pictures h.packets.keeps)
     ∙ ap (λ o. option_map (λ packet. packet.now) o) c.in_default.is
@@ -41,7 +41,7 @@ pub returns-in_default-clause-says : goal.returns-in_default-clause-says
 returns-in_default-clause-says c = λ p sender before frames past h among.
     let w = both_after p (steady p) frames before past in
     let n = c.args.number in
-    let none : slice_get (call.packets_of (encoding p) (rules_of p) w.sender.coded n) c.args.place ≡ None =
+    let none : slice_get (call.packets_at (encoding p) (rules_of p) w.sender.coded n) c.args.place ≡ None =
     ap (λ (l : List (List ℕ)). slice_get l c.args.place)
     (sym (kept_is p c.args.self.now w.sender.coded n h.packets among))
     ∙ sym (c.packet.ensures h.packets.pictures h.packets.keeps)
@@ -55,7 +55,7 @@ pub returns-clause-holds : goal.returns-clause-holds
 returns-clause-holds c = λ p sender before frames past h among near.
     let coded = (both_after p (steady p) frames before past).sender.coded in
     let n = c.args.number in
-    let there : slice_get (call.packets_of (encoding p) (rules_of p) coded n) c.args.place ≡ Some c.in-Some.bytes.now =
+    let there : slice_get (call.packets_at (encoding p) (rules_of p) coded n) c.args.place ≡ Some c.in-Some.bytes.now =
     ap (λ (l : List (List ℕ)). slice_get l c.args.place) (sym (kept_is p c.args.self.now coded n h.packets among))
     ∙ sym (c.packet.ensures h.packets.pictures h.packets.keeps)
     ∙ ap (λ o. option_map (λ packet. packet.now) o) c.in-Some.is
@@ -72,7 +72,7 @@ returns-clause-says c = λ p sender before frames past h among.
     let w = both_after p (steady p) frames before past in
     let n = c.args.number in
     let bytes = c.in-Some.bytes.now in
-    let there : slice_get (call.packets_of (encoding p) (rules_of p) w.sender.coded n) c.args.place ≡ Some bytes =
+    let there : slice_get (call.packets_at (encoding p) (rules_of p) w.sender.coded n) c.args.place ≡ Some bytes =
     ap (λ (l : List (List ℕ)). slice_get l c.args.place)
     (sym (kept_is p c.args.self.now w.sender.coded n h.packets among))
     ∙ sym (c.packet.ensures h.packets.pictures h.packets.keeps)
@@ -83,12 +83,12 @@ returns-clause-says c = λ p sender before frames past h among.
     h.joined c.packet-heard.result bytes
     (c.packet-heard.ensures.answer (heard_in p (steady p) frames before past) h.joined.receives)
     in
-    let says : IsMessage p.clock c.message.result (said_by answer) =
-    subst (λ (o : Option Said). IsMessage p.clock o (said_by answer)) (sym c.message.ensures)
+    let says : SaysMessage p.clock c.message.result (said_by answer) =
+    subst (λ (o : Option Said). SaysMessage p.clock o (said_by answer)) (sym c.message.ensures)
     (c.answers_say.ensures p.clock c.packet-heard.result answer heard_so)
     in
-    let fit : IfSome c.message.result (λ said. AreBytes (text_of said)) =
-    subst (λ (o : Option Said). IfSome o (λ said. AreBytes (text_of said))) c.as_said.ensures.same
+    let fit : IfSome c.message.result (λ said. AreBytes (text_of_said said)) =
+    subst (λ (o : Option Said). IfSome o (λ said. AreBytes (text_of_said said))) c.as_said.ensures.same
     c.as_said.ensures.bytes
     in
     let told : told_by n c.as_said.result ≡ told_of n (said_by answer) =

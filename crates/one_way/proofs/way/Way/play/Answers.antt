@@ -1,6 +1,6 @@
 -- A play and its answer are those of the receiver's run.
 use Rattle.std.proofs.Common.{◌≡◌, ℕ, List, ◌++◌, Option, IfSome, refl, sym, ap, subst, ◌∙◌}
-use Rattle.back_messages.specs.Said.{text_of}
+use Rattle.back_messages.specs.Said.{text_of_said}
 use Rattle.back_messages.specs.declared.writing.Said.{Said}
 use Rattle.coded_call.specs.Bytes.{AreBytes}
 use Rattle.call_model.specs.JoinedRun.{SaidMessage}
@@ -56,8 +56,8 @@ returns-clause-says c = λ p sender before frames past h.
     in
     let number : c.args.receiver.now.played ≡ w.receiver.played = played_is p runs (steady p) sender c.args.receiver.now
     frames before past h.joined in
-    let fit : IfSome c.play-played.result.message (λ said. AreBytes (text_of said)) =
-    subst (λ (o : Option Said). IfSome o (λ said. AreBytes (text_of said))) c.as_said.ensures.same
+    let fit : IfSome c.play-played.result.message (λ said. AreBytes (text_of_said said)) =
+    subst (λ (o : Option Said). IfSome o (λ said. AreBytes (text_of_said said))) c.as_said.ensures.same
     c.as_said.ensures.bytes
     in
     ap (λ (n : ℕ). w.said ++ told_of n message) (sym number)
@@ -67,5 +67,5 @@ returns-clause-says c = λ p sender before frames past h.
 
 pub returns-clause-bytes : goal.returns-clause-bytes
 returns-clause-bytes c =
-    subst (λ (o : Option Said). IfSome o (λ said. AreBytes (text_of said))) c.as_said.ensures.same
+    subst (λ (o : Option Said). IfSome o (λ said. AreBytes (text_of_said said))) c.as_said.ensures.same
     c.as_said.ensures.bytes

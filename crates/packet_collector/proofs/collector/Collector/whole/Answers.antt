@@ -5,8 +5,8 @@ use Rattle.h263_types.specs.declared.format.Format.TheVariants.{SubQcif, Qcif, C
 use Rattle.h263_types.specs.declared.blocks.SliceHead.{SliceHead}
 use Rattle.h263_types.specs.Sizes.{mbs_of}
 use Rattle.h263_types.specs.Blocks.{IsHeadOf}
-use Rattle.packet_collector.specs.Collected.{place_in}
-use Rattle.packet_collector.specs.Taken.{has_taken}
+use Rattle.packet_collector.specs.Collected.{row_place_of}
+use Rattle.packet_collector.specs.Taken.{is_mb_taken}
 use Rattle.packet_collector.proofs.AllMarks.{all_same}
 use Rattle.packet_collector.proofs.Places.{marks_of, all_kept, all_is}
 use Rattle.packet_collector.proofs.collector.Collector.whole.Goals as goal
@@ -23,8 +23,8 @@ returns c = λ first taken so.
     let head : SliceHead = record { first = 0; count = mbs_of self.format } in
     let is = whole_head self.format in
     let marks : c.marks_of.result.now ≡ marks_of self n head = c.marks_of.ensures
-    ∙ ap (λ (count : ℕ). take count (drop (place_in self n * mbs_of self.format + 0) self.marks.items.items))
+    ∙ ap (λ (count : ℕ). take count (drop (row_place_of self n * mbs_of self.format + 0) self.marks.items.items))
     c.mbs.ensures in
     c.all.ensures ∙ ap (list_all (λ mark. mark)) marks ∙ all_kept self n head is
     ∙ all_is self n head is first taken so c.requires
-    ∙ all_same (mbs_of self.format) _ (has_taken taken n) (λ i lt. ap (has_taken taken n) (omega arith))
+    ∙ all_same (mbs_of self.format) _ (is_mb_taken taken n) (λ i lt. ap (is_mb_taken taken n) (omega arith))

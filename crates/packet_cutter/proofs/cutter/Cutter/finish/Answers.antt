@@ -5,15 +5,16 @@ use Rattle.h263_types.specs.declared.blocks.MarkedMb.{MarkedMb}
 use Rattle.h263_types.specs.Sizes.{mbs_of}
 use Rattle.picture_header.specs.declared.header.Header.{Header}
 use Rattle.packet_cutter.specs.declared.cutter.Cutter.{Cutter}
-use Rattle.packet_cutter.specs.Cutting.{format_of, limit_of, added_of, sequence_of, Holds}
+use Rattle.packet_cutter.specs.Cutting.{cut_format, limit_of, added_of, sequence_of, HoldsMbs}
 use Rattle.packet_cutter.specs.Kept.{kept_packets}
 use Rattle.packet_cutter.specs.Packets.{ArePacketsOf}
 use Rattle.packet_cutter.specs.Taken.{unmarked}
 use Rattle.packet_cutter.proofs.cutter.Cutter.finish.Goals as goal
 
 -- the packets of what the cutter keeps are those of the picture that it holds
-of_the_picture : (c : Cutter) (number : ℕ) (h : Header) (mbs : List Mb) (these : List MarkedMb) (packets : List (List ℕ))
-    → Holds c number h mbs → added_of c ≡ mbs_of (format_of c) → these ≡ c.mbs.items.items
+of_the_picture : (c : Cutter) (number : ℕ) (h : Header) (mbs : List Mb) (these : List MarkedMb)
+    (packets : List (List ℕ))
+    → HoldsMbs c number h mbs → added_of c ≡ mbs_of (cut_format c) → these ≡ c.mbs.items.items
     → ArePacketsOf c.number c.sequence c.header (limit_of c) (unmarked these) packets
     → ArePacketsOf number (sequence_of c) h (limit_of c) mbs packets
 of_the_picture c number h mbs these packets holds all same are =

@@ -2,7 +2,7 @@ use Rattle.std.proofs.Common.{◌≡◌, ℕ, ◌+◌, ◌-◌, ◌≤◌, List,
 use borrow.Rule.Slice.PartMut.{post_of, put_mid, same_len_mid}
 use Rattle.std.proofs.lemmas.List.{with_items_is}
 use Rattle.packet_cutter.specs.Packets.{BeginsWith}
-use Rattle.packet_cutter.specs.Taken.{packets_in, unmarked}
+use Rattle.packet_cutter.specs.Taken.{first_packets, unmarked}
 use Rattle.packet_cutter.proofs.Marked.{length-unmarked}
 use Rattle.packet_cutter.proofs.Places.{window_length, appended}
 use Rattle.packet_cutter.proofs.packets.Packets.append.Goals as goal
@@ -34,7 +34,7 @@ returns-clause-packet c =
     )) in
     record {
       packet = take size part.new.bytes;
-      packets = ap (λ (l : List ℕ). packets_in l places (p.count + 1)) (with_items_is p.bytes.items written long)
+      packets = ap (λ (l : List ℕ). first_packets l places (p.count + 1)) (with_items_is p.bytes.items written long)
           ∙ kept;
       few = begins.few;
       longest = begins.longest;

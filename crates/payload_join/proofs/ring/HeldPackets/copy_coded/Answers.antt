@@ -3,7 +3,7 @@ use Rattle.std.proofs.Common.{ℕ, ◌+◌, Some, None, length, sym, ap, subst, 
 use Rattle.h263_region.specs.Slots.{Slots, bytes_in}
 use Rattle.payload_join.specs.Packet.{bytes_between}
 use Rattle.payload_join.specs.Outgoing.{coded_one}
-use Rattle.payload_join.specs.Places.{Packets, place_at, put_at}
+use Rattle.payload_join.specs.Places.{PacketPlaces, place_at, put_at}
 use Rattle.payload_join.specs.Ring.{IsRing}
 use Rattle.payload_join.proofs.Slots.{with_slot, put_none}
 use Rattle.payload_join.proofs.InSlots.{seen, seen_at, slot_is, last_is, placed_at, coded_is, room_ring, room_seen}
@@ -70,7 +70,7 @@ returns-clause-room c =
     ∙ (λ i. with_slot s.region (last i) (put_at (bytes_in s.region (last i)) at (coded i))) in
     ap (λ (t : Slots). seen s.top t s.slots.items s.parts.items) new
     ∙ room_seen s.top s.region s.slots.items s.parts.items at all c.self.invariant
-    ∙ ap (λ (t : Packets). record t { room = put_at t.room at all }) c.self.view_is
+    ∙ ap (λ (t : PacketPlaces). record t { room = put_at t.room at all }) c.self.view_is
 
 pub returns-clause-end : goal.returns-clause-end
 returns-clause-end c =

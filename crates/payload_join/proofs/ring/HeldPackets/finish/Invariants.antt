@@ -1,5 +1,5 @@
 use Rattle.std.proofs.Common.{◌≡◌, ◌+◌, vec_len}
-use Rattle.payload_join.specs.Ring.{IsHeld}
+use Rattle.h263_region.specs.Claimed.{IsHeld}
 use Rattle.payload_join.proofs.ring.HeldPackets.finish.Given as goal
 
 -- the slots that are left are those that are out

@@ -4,8 +4,8 @@ use Rattle.std.proofs.lemmas.List.{with_items_is}
 use Rattle.std.specs.Vec.{with_items}
 use Rattle.h263_region.specs.Slots.{Slots, bytes_in}
 use Rattle.payload_join.specs.declared.parts.Parts.{Parts}
-use Rattle.payload_join.specs.Parts.{packet_of}
-use Rattle.payload_join.specs.Places.{Packets, left_at, put_at, top_after, holding}
+use Rattle.payload_join.specs.Parts.{packet_from_parts}
+use Rattle.payload_join.specs.Places.{PacketPlaces, left_at, put_at, top_after, holding}
 use Rattle.payload_join.specs.Ring.{IsRing}
 use Rattle.payload_join.proofs.Slots.{with_slot}
 use Rattle.payload_join.proofs.InSlots.{seen, many_left, ring_held, held_is, slot_is}
@@ -52,4 +52,4 @@ returns-clause-holds c =
     (with_slot s.region k (put_at (bytes_in s.region k) 0 bytes)) s.slots.items
     (set (left_at s.top items sequence) (sequence % 64) (Some p))) is_slot
     ∙ held_is s.region s.slots.items items s.top bytes sequence p c.self.invariant c.requires
-    ∙ ap (λ (t : Packets). holding t sequence (packet_of bytes p)) c.self.view_is
+    ∙ ap (λ (t : PacketPlaces). holding t sequence (packet_from_parts bytes p)) c.self.view_is

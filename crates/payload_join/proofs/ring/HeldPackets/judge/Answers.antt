@@ -1,6 +1,6 @@
 use Rattle.std.proofs.Common.{ℕ, Option, ap, sym, ◌∙◌}
-use Rattle.payload_join.specs.Places.{Packets, judged}
-use Rattle.payload_join.specs.Ring.{packets_of}
+use Rattle.payload_join.specs.Places.{PacketPlaces, packet_judged}
+use Rattle.payload_join.specs.Ring.{slot_packets}
 use Rattle.payload_join.proofs.InSlots.{judged_again, judged_fresh, some_seen, many_places}
 use Rattle.payload_join.proofs.ring.HeldPackets.judge.Goals as goal
 
@@ -8,9 +8,9 @@ pub returns-then-is_some-clause-answer : goal.returns-then-is_some-clause-answer
 returns-then-is_some-clause-answer c =
     let s = c.self.inside in let sequence = c.args.sequence in
     sym (
-    ap (λ (t : Packets). judged t.top t.packets sequence) (sym c.self.view_is)
-    ∙ ap (λ (o : Option ℕ). judged o (packets_of s.region s.slots.items s.parts.items) sequence) c.in-Some.is
-    ∙ judged_again (packets_of s.region s.slots.items s.parts.items) c.in-Some.top sequence c.reach-reach.result
+    ap (λ (t : PacketPlaces). packet_judged t.top t.packets sequence) (sym c.self.view_is)
+    ∙ ap (λ (o : Option ℕ). packet_judged o (slot_packets s.region s.slots.items s.parts.items) sequence) c.in-Some.is
+    ∙ judged_again (slot_packets s.region s.slots.items s.parts.items) c.in-Some.top sequence c.reach-reach.result
     c.reach-reach.ensures.exact c.if-reach-le32768.false c.if-reach-gt32768.false
     (some_seen s.region s.slots.items s.parts.items sequence c.index.result.now c.self.invariant c.index.ensures
     ∙ sym c.is_some.ensures ∙ c.if-is_some.true)
@@ -20,9 +20,9 @@ pub returns-clause-answer : goal.returns-clause-answer
 returns-clause-answer c =
     let s = c.self.inside in let sequence = c.args.sequence in
     sym (
-    ap (λ (t : Packets). judged t.top t.packets sequence) (sym c.self.view_is)
-    ∙ ap (λ (o : Option ℕ). judged o (packets_of s.region s.slots.items s.parts.items) sequence) c.in-Some.is
-    ∙ judged_fresh (packets_of s.region s.slots.items s.parts.items) c.in-Some.top sequence c.reach-reach.result
+    ap (λ (t : PacketPlaces). packet_judged t.top t.packets sequence) (sym c.self.view_is)
+    ∙ ap (λ (o : Option ℕ). packet_judged o (slot_packets s.region s.slots.items s.parts.items) sequence) c.in-Some.is
+    ∙ judged_fresh (slot_packets s.region s.slots.items s.parts.items) c.in-Some.top sequence c.reach-reach.result
     c.reach-reach.ensures.exact c.if-reach-le32768.false c.if-reach-gt32768.false
     (some_seen s.region s.slots.items s.parts.items sequence c.index.result.now c.self.invariant c.index.ensures
     ∙ sym c.is_some.ensures ∙ c.if-is_some.false)

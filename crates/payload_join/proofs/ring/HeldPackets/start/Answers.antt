@@ -2,7 +2,7 @@ use Rattle.std.proofs.Common.{◌≡◌, None, false, length, refl, ap, ◌∙�
 use Rattle.std.specs.Prelude.{replicate}
 use Rattle.std.proofs.lemmas.List.{length-replicate}
 use Rattle.h263_region.specs.Slots.{zeros, count_of}
-use Rattle.payload_join.specs.Ring.{packets_of}
+use Rattle.payload_join.specs.Ring.{slot_packets}
 use Rattle.payload_join.proofs.InSlots.{none_are, ring_claimed}
 use Rattle.payload_join.proofs.ring.HeldPackets.start.Goals as goal
 
@@ -22,6 +22,6 @@ returns-in-Ok c =
     let many : length c.claim_all.new.slots.items ≡ 65 = e.all ∙ ap count_of z ∙ length-replicate 65 false in
     record {
       top = refl;
-      packets = ap (packets_of c.claim_all.new.region c.claim_all.new.slots.items) none
+      packets = ap (slot_packets c.claim_all.new.region c.claim_all.new.slots.items) none
           ∙ none_are c.claim_all.new.region c.claim_all.new.slots.items 64 (omega arith);
     }

@@ -1,6 +1,6 @@
 use Rattle.std.proofs.Common.{sym, ap, subst, ◌∙◌}
 use Rattle.h263_region.specs.Slots.{Slots, bytes_in}
-use Rattle.payload_join.specs.Places.{Packets, put_at}
+use Rattle.payload_join.specs.Places.{PacketPlaces, put_at}
 use Rattle.payload_join.specs.Ring.{IsRing}
 use Rattle.payload_join.proofs.Slots.{with_slot}
 use Rattle.payload_join.proofs.InSlots.{seen, last_is, room_ring, room_seen}
@@ -21,4 +21,4 @@ returns c =
     let new = c.put.ensures ∙ ap (λ k. with_slot s.region k (put_at (bytes_in s.region k) at bytes)) slot in
     ap (λ (t : Slots). seen s.top t s.slots.items s.parts.items) new
     ∙ room_seen s.top s.region s.slots.items s.parts.items at bytes c.self.invariant
-    ∙ ap (λ (t : Packets). record t { room = put_at t.room at bytes }) c.self.view_is
+    ∙ ap (λ (t : PacketPlaces). record t { room = put_at t.room at bytes }) c.self.view_is

@@ -3,7 +3,7 @@ use Rattle.std.proofs.Common.{◌≡◌, OnOk, OnErr, sym, ◌∙◌, subst, ari
 use Rattle.std.proofs.lemmas.Result.{on_err_weaker, on_ok_weaker}
 use Rattle.rate_control.specs.declared.meter.Totals.{Totals}
 use Rattle.rate_control.specs.Metering.{totals_of}
-use Rattle.rate_control.specs.Text.{text_of}
+use Rattle.rate_control.specs.Text.{meter_text}
 use Rattle.desk_program.specs.Ends.{Gains, GainsFronts}
 use Rattle.rate_command.specs.Rate.{closing_text}
 use Rattle.rate_command.proofs.Telling.{cut_last, cut_totals, on_err, whole_totals}
@@ -42,7 +42,7 @@ returns-clause-ok g c = λ s stands.
     (on_ok_weaker c.put_text.result
     (whole_totals c.turn_laws.ensures c.close-totals.result (outside c.args.desk.now).written
     (outside c.tell_last.new.desk).written (outside c.put_text.new.desk).written
-    c.in_ok-tell_last.ensures.ok (text_of c.totals_text.result) c.totals_text.ensures)
+    c.in_ok-tell_last.ensures.ok (meter_text c.totals_text.result) c.totals_text.ensures)
     c.put_text.ensures.ok)
 
 pub returns-clause-err : goal.returns-clause-err
@@ -57,5 +57,5 @@ returns-clause-err g c = λ s stands.
     (on_err_weaker c.put_text.result
     (cut_totals c.turn_laws.ensures c.close-totals.result (outside c.args.desk.now).written
     (outside c.tell_last.new.desk).written (outside c.put_text.new.desk).written
-    c.in_ok-tell_last.ensures.ok (text_of c.totals_text.result) c.totals_text.ensures)
+    c.in_ok-tell_last.ensures.ok (meter_text c.totals_text.result) c.totals_text.ensures)
     c.put_text.ensures.err)

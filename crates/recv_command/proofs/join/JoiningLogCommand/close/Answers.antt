@@ -1,6 +1,6 @@
 use Rattle.std.proofs.Common.{◌≡◌, ℕ, List, sym, ap, subst, ◌∙◌}
 use Rattle.h263_outside.specs.declared.desk.Role.TheVariants.{Report}
-use Rattle.call_report.specs.View.{text_of}
+use Rattle.call_report.specs.View.{line_text}
 use Rattle.desk_program.specs.Ends.{Gains, GainsFronts}
 use Rattle.desk_program.specs.Texts.{on}
 use Rattle.recv_command.specs.JoinTally.{join_text}
@@ -12,7 +12,7 @@ use Rattle.recv_command.proofs.join.JoiningLogCommand.close.Goals as goal
 pub returns-in_err-put_line-clause-err : goal.returns-in_err-put_line-clause-err
 returns-in_err-put_line-clause-err g c = λ s stands.
     let outside = g.D.Desk.outside in
-    let told : text_of c.line.result ≡ join_text s.took = c.line.ensures ∙ ap join_text (sym stands.took) in
+    let told : line_text c.line.result ≡ join_text s.took = c.line.ensures ∙ ap join_text (sym stands.took) in
     on_err c.from_residual.result
     (c.turn_laws.ensures.front_of_first (on Report (join_text s.took)) (recv_rules.end_text s.receiver)
     (outside c.args.desk.now).written (outside c.put_line.new.desk).written
@@ -22,7 +22,7 @@ returns-in_err-put_line-clause-err g c = λ s stands.
 pub returns-clause-ok : goal.returns-clause-ok
 returns-clause-ok g c = λ s stands.
     let outside = g.D.Desk.outside in
-    let told : text_of c.line.result ≡ join_text s.took = c.line.ensures ∙ ap join_text (sym stands.took) in
+    let told : line_text c.line.result ≡ join_text s.took = c.line.ensures ∙ ap join_text (sym stands.took) in
     let first = subst (λ (l : List ℕ). Gains (on Report l) (outside c.args.desk.now).written
     (outside c.put_line.new.desk).written) told c.in_ok-put_line.ensures.ok in
     (text_more c.turn_laws.ensures (on Report (join_text s.took)) (recv_rules.end_text s.receiver) c.tell.result
@@ -32,7 +32,7 @@ returns-clause-ok g c = λ s stands.
 pub returns-clause-err : goal.returns-clause-err
 returns-clause-err g c = λ s stands.
     let outside = g.D.Desk.outside in
-    let told : text_of c.line.result ≡ join_text s.took = c.line.ensures ∙ ap join_text (sym stands.took) in
+    let told : line_text c.line.result ≡ join_text s.took = c.line.ensures ∙ ap join_text (sym stands.took) in
     let first = subst (λ (l : List ℕ). Gains (on Report l) (outside c.args.desk.now).written
     (outside c.put_line.new.desk).written) told c.in_ok-put_line.ensures.ok in
     (text_more c.turn_laws.ensures (on Report (join_text s.took)) (recv_rules.end_text s.receiver) c.tell.result

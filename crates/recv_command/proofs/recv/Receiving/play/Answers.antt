@@ -6,7 +6,7 @@ use Rattle.h263_types.specs.declared.params.Params.{Params}
 use Rattle.h263_planes.specs.Lent.{picture as lent}
 use Rattle.desk_program.specs.Ends.{Gains, GainsFronts}
 use Rattle.call_model.specs.Receiving.{PlayNext}
-use Rattle.receiver_end.specs.Answers.{mark_of}
+use Rattle.receiver_end.specs.Answers.{mark_from}
 use Rattle.receiver_end.specs.State.{mark_after, message_after, run_of}
 use Rattle.recv_command.specs.Recv.{played_text}
 use Rattle.recv_command.specs.Tally.{with_mark}
@@ -18,7 +18,7 @@ returns-clause-stands g c = λ s bytes stands.
     let told = c.play-played.ensures.told s.past stands.run in
     record {
       params = stands.params ∙ sym c.play-played.ensures.params;
-      tally = (λ i. with_mark (mark_of (mark_after (stands.params i) s.past)) (stands.tally i))
+      tally = (λ i. with_mark (mark_from (mark_after (stands.params i) s.past)) (stands.tally i))
           ∙ sym (c.play.ensures.counts ∙ ap (λ (m : Mark). with_mark m c.args.self.now.tally) told.mark_is);
       run = c.play-played.ensures.stands s.past stands.run;
     }

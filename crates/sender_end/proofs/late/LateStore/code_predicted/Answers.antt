@@ -7,7 +7,7 @@ use Rattle.h263_planes.specs.Layout.{picture_of}
 use Rattle.h263_planes.specs.Lent.{picture}
 use Rattle.h263_planes.specs.Picture.{Picture}
 use Rattle.mode_choice.specs.Choice.{choices_of}
-use Rattle.packet_cutter.specs.Cutting.{packets_of, sequence_of}
+use Rattle.packet_cutter.specs.Cutting.{cutter_packets, sequence_of}
 use Rattle.packet_cutter.specs.Packets.{ArePacketsOf}
 use Rattle.picture_recon.specs.Samples.{reconstruction}
 use Rattle.picture_store.specs.Pictures.{picture_in, slot_of, slots_of, with_work}
@@ -82,7 +82,7 @@ returns-clause-packets c =
     let p = c.args.params.now in
     let h = c.args.heading.now.header in
     subst (λ (q : Picture). ArePacketsOf c.args.heading.now.number (sequence_of c.args.cutter.now) h p.limit
-    (choices_of (picture c.args.frame) (Some q) h p) (packets_of c.code_into.new.cutter))
+    (choices_of (picture c.args.frame) (Some q) h p) (cutter_packets c.code_into.new.cutter))
     (reference_is c) c.code_into.ensures.packets
 
 pub returns-clause-store : goal.returns-clause-store

@@ -15,7 +15,7 @@ use Rattle.call_decoding.specs.Samples.{pictures}
 use Rattle.call_decoding.specs.Styles.{Style}
 use Rattle.call_encoding.specs.Encoding.{encoding}
 use Rattle.call_encoding.specs.Frames.{Frame}
-use Rattle.sender_end.specs.Stands.{Describes, Holds, IsCodedWith, IsSeen, Run, after_code, next_after, next_in, run_of}
+use Rattle.sender_end.specs.Stands.{Describes, Holds, IsCodedWith, IsSeen, SentRun, after_code, next_after, next_in, entries_run}
 use Rattle.sender_end.specs.State.{SenderState}
 use Rattle.sender_end.proofs.Captured.{next, reference_at, with_kept}
 use Rattle.sender_end.proofs.Choosing.{no_depth}
@@ -114,7 +114,8 @@ returns-clause-tells g c = λ entries was.
     ∙ c.sender_stands.ensures.next (pictures p.format) (encoding p) (rules_of p)
     (c.are_rules.ensures p (params_are g c)) pace (frame_of g c) was.s entries was.stands
     in
-    subst (λ (x : CodedPicture Style Mb Picture). Describes (length (run_of p pace entries).coded) x c.code_next.result)
+    subst (λ (x : CodedPicture Style Mb Picture). Describes (length (entries_run p pace entries).coded) x
+    c.code_next.result)
     after
     (subst (λ (n : ℕ). Describes n
     (with_kept p (pace was.s.sizes) (frame_of g c) was.s c.next_from-next.result.reference) c.code_next.result)
@@ -123,7 +124,7 @@ returns-clause-tells g c = λ entries was.
 -- ---- a sender that may be steered
 
 -- the picture that was coded is the run's next one
-next_is : (g : Over) (c : After-code_next g) (run : Run) (was : Holds c.args.self.now run)
+next_is : (g : Over) (c : After-code_next g) (run : SentRun) (was : Holds c.args.self.now run)
     → with_kept c.args.self.now.params (g.P.Pace.quant_of c.args.self.now.pace was.s.sizes)
     (frame_of g c) was.s c.next_from-next.result.reference
     ≡ next_in c.args.self.now.params (g.P.Pace.quant_of c.args.self.now.pace) (frame_of g c) run

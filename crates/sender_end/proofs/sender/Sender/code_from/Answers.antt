@@ -16,7 +16,7 @@ use Rattle.call_decoding.specs.Styles.{Style}
 use Rattle.call_encoding.specs.Encoding.{encoding}
 use Rattle.call_encoding.specs.Frames.{Frame}
 use Rattle.sender_end.specs.Selecting.{within_chain}
-use Rattle.sender_end.specs.Stands.{Describes, Holds, IsCodedWith, IsSeen, Run, after_code_from, next_with}
+use Rattle.sender_end.specs.Stands.{Describes, Holds, IsCodedWith, IsSeen, SentRun, after_code_from, next_with}
 use Rattle.sender_end.specs.State.{SenderState}
 use Rattle.sender_end.proofs.Captured.{with_kept}
 use Rattle.sender_end.proofs.Choosing.{no_depth}
@@ -97,7 +97,7 @@ coded_with : (g : Over) (c : After-code_next g) (s : Sender Picture) → IsSeen 
 coded_with g c s seen = c.code_next.ensures.made s seen (depth_is g c s seen)
 
 -- the picture that was coded is the run's next one with that reference
-next_is : (g : Over) (c : After-code_next g) (run : Run) (was : Holds c.args.self.now run)
+next_is : (g : Over) (c : After-code_next g) (run : SentRun) (was : Holds c.args.self.now run)
     → with_kept c.args.self.now.params (g.P.Pace.quant_of c.args.self.now.pace was.s.sizes)
     (frame_of g c) was.s c.next_given-next.result.reference
     ≡ next_with c.args.self.now.params (g.P.Pace.quant_of c.args.self.now.pace) c.args.reference (frame_of g c) run

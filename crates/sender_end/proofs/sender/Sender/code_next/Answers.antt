@@ -14,11 +14,11 @@ use Rattle.picture_header.specs.Ranges.{AreMessages}
 use Rattle.picture_header.specs.Text.{in_places}
 use Rattle.mode_choice.specs.Choice.{choices_of}
 use Rattle.picture_recon.specs.Samples as recon
-use Rattle.packet_cutter.specs.Cutting.{packets_of, sequence_of}
+use Rattle.packet_cutter.specs.Cutting.{cutter_packets, sequence_of}
 use Rattle.packet_cutter.specs.Packets.{ArePacketsOf}
 use Rattle.picture_store.specs.Pictures.{IsKept, picture_in, slot_of, slots_of}
 use Rattle.call_model.specs.CodedPictures.{Coded as CodedPicture}
-use Rattle.call_model.specs.Sending.{bytes_in}
+use Rattle.call_model.specs.Sending.{bytes_together}
 use Rattle.call_model.specs.Stands.{Sender}
 use Rattle.call_model.specs.SenderStanding.{IsAfterCapture, with_size}
 use Rattle.call_decoding.specs.Rules.{rules_of}
@@ -30,7 +30,7 @@ use Rattle.sender_end.specs.declared.answers.Coded.{Coded}
 use Rattle.sender_end.specs.Coding.{HasKept, kept_picture}
 use Rattle.sender_end.specs.Headers.{numbered}
 use Rattle.sender_end.specs.Stands.{IsCodedWith, IsSeen}
-use Rattle.sender_end.specs.Parts.{state_of}
+use Rattle.sender_end.specs.Parts.{sender_state}
 use Rattle.sender_end.specs.State.{SenderState}
 use Rattle.sender_end.proofs.Captured.{made, made_is_kept, packets_are, with_kept}
 use Rattle.sender_end.proofs.Keeping.{at_new, at_other, at_same, coded_numbers, coded_rests, has_kept, own_numbers, same_picture, still_kept}
@@ -99,11 +99,11 @@ invariant_of-self g c =
 
 -- the sender as it was and as it is, the frame and the answer
 abbrev before : (g : Over) → After-count g → SenderState g.row.P.Denot
-before g c = state_of c.self.inside
+before g c = sender_state c.self.inside
 
 abbrev after : (g : Over) → After-count g → SenderState g.row.P.Denot
 after g c =
-    state_of
+    sender_state
     (record (c.self.inside) {
       sent = c.self.inside.sent + 1;
       cutter = c.code.new.cutter;
@@ -159,18 +159,18 @@ coded_with g c s seen depth_is =
     ∙ ap (λ (q : Params). q.format) params_are)
     in
     let written : ArePacketsOf n (sequence_of old.cutter) (header_from header) p.limit mbs
-    (packets_of c.code.new.cutter) =
+    (cutter_packets c.code.new.cutter) =
     subst (λ (l : List Mb). ArePacketsOf n (sequence_of old.cutter) (header_from header) p.limit l
-    (packets_of c.code.new.cutter)) chosen_mbs
+    (cutter_packets c.code.new.cutter)) chosen_mbs
     (subst (λ (h : Header). ArePacketsOf n (sequence_of old.cutter) h p.limit
-    (choices_of frame.picture earlier c.header_of-header.result p) (packets_of c.code.new.cutter)) headed
+    (choices_of frame.picture earlier c.header_of-header.result p) (cutter_packets c.code.new.cutter)) headed
     coding.packets)
     in
-    let packets : packets_of c.code.new.cutter ≡ (encoding p).packets n (sequence_of old.cutter) header x.slices =
+    let packets : cutter_packets c.code.new.cutter ≡ (encoding p).packets n (sequence_of old.cutter) header x.slices =
     c.written_packets.ensures.packets p (is_some reference) n (sequence_of old.cutter) header mbs
-    (packets_of c.code.new.cutter) (numbered_fits p n reference x.style) refl written
+    (cutter_packets c.code.new.cutter) (numbered_fits p n reference x.style) refl written
     in
-    let count : length (packets_of c.code.new.cutter) ≡ length x.slices =
+    let count : length (cutter_packets c.code.new.cutter) ≡ length x.slices =
     ap (λ (l : List (List ℕ)). length l) packets
     ∙ c.written_packets.ensures.count p n (sequence_of old.cutter) header x.slices
     in
@@ -191,7 +191,7 @@ coded_with g c s seen depth_is =
     let t : Sender Picture = record {
       sent = n + 1;
       sequence = sequence_of c.code.new.cutter;
-      packets = packets_of c.code.new.cutter;
+      packets = cutter_packets c.code.new.cutter;
       sizes = c.push_size.new.sizes.items;
       picture = λ rest. picture_in now rest;
       depth = at_new (n % p.slots) d s.depth;
@@ -202,14 +202,14 @@ coded_with g c s seen depth_is =
       sent = ap (λ (k : ℕ). k + 1) (sym seen.sent);
       sequence =
           coding.sequence
-          ∙ ap (λ (k : ℕ). (k + length (packets_of c.code.new.cutter)) % 65536) (sym seen.sequence)
+          ∙ ap (λ (k : ℕ). (k + length (cutter_packets c.code.new.cutter)) % 65536) (sym seen.sequence)
           ∙ ap (λ (k : ℕ). (s.sequence + k) % 65536) count;
-      packets = packets_are p s n (sequence_of old.cutter) x (packets_of c.code.new.cutter) seen.sent seen.sequence
+      packets = packets_are p s n (sequence_of old.cutter) x (cutter_packets c.code.new.cutter) seen.sent seen.sequence
           packets;
       sizes =
           c.push_size.ensures
           ∙ ap (λ (k : ℕ). with_size old.sizes.items k) c.size_of.ensures
-          ∙ ap (λ (l : List ℕ). with_size l (bytes_in (packets_of c.code.new.cutter))) (sym seen.sizes);
+          ∙ ap (λ (l : List ℕ). with_size l (bytes_together (cutter_packets c.code.new.cutter))) (sym seen.sizes);
       picture = ap (λ (k : ℕ). picture_in now k) at ∙ shown;
       depth = ap (at_new (n % p.slots) d s.depth) at ∙ at_same (n % p.slots) d s.depth;
       known = ap (at_new (n % p.slots) false s.known) at ∙ at_same (n % p.slots) false s.known;

@@ -8,8 +8,8 @@ use Rattle.call_decoding.specs.Rules.{rules_of}
 use Rattle.call_decoding.specs.Samples.{pictures}
 use Rattle.call_encoding.specs.Encoding.{encoding}
 use Rattle.call_encoding.specs.Messages.{as_read, read_message}
-use Rattle.sender_end.specs.Parts.{state_of}
-use Rattle.sender_end.specs.Stands.{Holds, IsSeen, Stands, after_message}
+use Rattle.sender_end.specs.Parts.{sender_state}
+use Rattle.sender_end.specs.Stands.{Holds, IsSeen, PacedStands, after_message}
 use Rattle.sender_end.specs.State.{SenderState}
 use Rattle.sender_end.proofs.Keeping.{own_numbers}
 use Rattle.sender_end.proofs.Noted.{IsNoted, noted}
@@ -37,10 +37,10 @@ invariant_of-self g c =
 
 -- the sender as it was, and what became of it
 abbrev before : (g : Over) → Joined-note g → SenderState g.row.P.Denot
-before g c = state_of c.self.inside
+before g c = sender_state c.self.inside
 
 abbrev after : (g : Over) → Joined-note g → SenderState g.row.P.Denot
-after g c = state_of (record (c.self.inside) { selector = c.note.new.self })
+after g c = sender_state (record (c.self.inside) { selector = c.note.new.self })
 
 seen_after : (g : Over) (c : Joined-note g) (s : Sender Picture) → IsSeen (before g c) s
     → IsNoted (before g c) c.args.bytes.now c.note.new.self s
@@ -56,10 +56,10 @@ returns-after-note-clause-stands g c = λ entries stood.
     let i = c.self.inside in
     let p = i.params in
     let pace = g.P.Pace.quant_of i.pace in
-    let was = subst (λ (x : SenderState g.row.P.Denot). Stands (g.P.Pace.quant_of x.pace) x entries)
+    let was = subst (λ (x : SenderState g.row.P.Denot). PacedStands (g.P.Pace.quant_of x.pace) x entries)
     (sym c.self.view_is) stood in
     let noted_now = seen_after g c was.s was.seen in
-    let now : Stands pace (after g c) (Feedback c.args.bytes.now ∷ entries) = record {
+    let now : PacedStands pace (after g c) (Feedback c.args.bytes.now ∷ entries) = record {
       s = noted_now.t;
       seen = noted_now.seen;
       since = was.since;
@@ -68,7 +68,7 @@ returns-after-note-clause-stands g c = λ entries stood.
           (c.are_rules.ensures p c.self.invariant.params)
           pace c.args.bytes.now was.s noted_now.t entries was.stands noted_now.after;
     } in
-    subst (λ (x : SenderState g.row.P.Denot). Stands (g.P.Pace.quant_of x.pace) (after g c)
+    subst (λ (x : SenderState g.row.P.Denot). PacedStands (g.P.Pace.quant_of x.pace) (after g c)
     (Feedback c.args.bytes.now ∷ entries)) c.self.view_is now
 
 pub returns-after-note-clause-holds : goal.returns-after-note-clause-holds

@@ -1,5 +1,5 @@
 use Rattle.std.proofs.Common.{◌∙◌, sym, subst}
-use Rattle.sender_end.specs.Parts.{state_of}
+use Rattle.sender_end.specs.Parts.{sender_state}
 use Rattle.sender_end.specs.Stands.{Holds}
 use Rattle.sender_end.specs.State.{SenderState}
 use Rattle.sender_end.proofs.Beginning.{ready_as, seen_as}
@@ -14,7 +14,7 @@ returns-clause-holds g c = λ run held.
     let was = subst (λ (x : SenderState g.row.P.Denot). Holds x run) (sym c.self.view_is) held in
     record {
       s = was.s;
-      seen = seen_as (state_of i) i.pace i.sent was.s was.seen;
+      seen = seen_as (sender_state i) i.pace i.sent was.s was.seen;
       since = sym was.seen.sent ∙ was.holds.keeps.sent;
       holds = was.holds;
     }

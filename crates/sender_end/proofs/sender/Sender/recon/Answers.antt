@@ -14,8 +14,8 @@ use Rattle.call_decoding.specs.Rules.{rules_of}
 use Rattle.call_decoding.specs.Samples.{pictures}
 use Rattle.call_decoding.specs.Styles.{Style}
 use Rattle.call_encoding.specs.Encoding.{encoding}
-use Rattle.sender_end.specs.Parts.{state_of}
-use Rattle.sender_end.specs.Stands.{Holds, IsSeen, Stands, run_of}
+use Rattle.sender_end.specs.Parts.{sender_state}
+use Rattle.sender_end.specs.Stands.{Holds, IsSeen, PacedStands, entries_run}
 use Rattle.sender_end.specs.State.{SenderState}
 use Rattle.sender_end.proofs.sender.Sender.recon.Given.{Over}
 use Rattle.sender_end.proofs.sender.Sender.recon.Goals.{After-unwrap}
@@ -46,7 +46,7 @@ if_some Q (Some y) x is holds = subst Q (cc is) holds
 
 -- the picture that is lent, by the run whose state is kept
 lent_is : (g : Over) (c : After-unwrap g) (s : Sender Picture) (run : SenderRun Style Mb Picture)
-    → IsSeen (state_of c.self.inside) s
+    → IsSeen (sender_state c.self.inside) s
     → SenderKeeps (pictures c.self.inside.params.format) (encoding c.self.inside.params) (rules_of c.self.inside.params)
     s run
     → Some (picture c.unwrap.result) ≡ picture_at run.coded (c.self.inside.sent - 1)
@@ -63,16 +63,16 @@ lent_is g c s run seen keeps =
     c.unwrap.result c.unwrap.ensures c.view.ensures.picture
     in
     ap (λ (p : Picture). let o : Option Picture = Some p in o) shown
-    ∙ last_is (state_of i) s run seen keeps ready.slots (omega (arith, ready.params.slots_low)) some
+    ∙ last_is (sender_state i) s run seen keeps ready.slots (omega (arith, ready.params.slots_low)) some
 
 pub returns-clause-stands : goal.returns-clause-stands
 returns-clause-stands g c = λ entries stood.
     let i = c.self.inside in
-    let was = subst (λ (x : SenderState g.row.P.Denot). Stands (g.P.Pace.quant_of x.pace) x entries)
+    let was = subst (λ (x : SenderState g.row.P.Denot). PacedStands (g.P.Pace.quant_of x.pace) x entries)
     (sym c.self.view_is) stood in
     subst (λ (x : SenderState g.row.P.Denot). Some (picture c.unwrap.result)
-    ≡ picture_at (run_of x.params (g.P.Pace.quant_of x.pace) entries).coded (x.sent - 1)) c.self.view_is
-    (lent_is g c was.s (run_of i.params (g.P.Pace.quant_of i.pace) entries) was.seen was.stands)
+    ≡ picture_at (entries_run x.params (g.P.Pace.quant_of x.pace) entries).coded (x.sent - 1)) c.self.view_is
+    (lent_is g c was.s (entries_run i.params (g.P.Pace.quant_of i.pace) entries) was.seen was.stands)
 
 pub returns-clause-holds : goal.returns-clause-holds
 returns-clause-holds g c = λ run held.

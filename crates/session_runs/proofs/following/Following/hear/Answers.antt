@@ -3,8 +3,8 @@ use Rattle.stream_choice.specs.declared.streams.Streams.{Streams}
 use Rattle.stream_choice.specs.declared.streams.Turn.{Turn}
 use Rattle.stream_choice.specs.Choice.{after_complete, turn_of}
 use Rattle.session_runs.specs.declared.following.Following.{Following}
-use Rattle.session_runs.specs.Histories.{after_packet, answer_in}
-use Rattle.session_runs.specs.Lines.{line_of, turned, with_line}
+use Rattle.session_runs.specs.Histories.{history_after_packet, answer_in}
+use Rattle.session_runs.specs.Lines.{line_of, turned, lines_with}
 use Rattle.session_runs.specs.Kept.{config_in}
 use Rattle.session_runs.specs.Three.{LinesStand}
 use Rattle.session_runs.specs.Following.{Follows, completed_if}
@@ -20,7 +20,7 @@ returns-then-is_complete-clause-stands c = λ f s.
     let k = config_in c.args.settings.now in
     let h = line_of c.args.run f.lines in
     let a = answer_in k c.args.packet.now c.args.bytes.now c.args.now h in
-    let l = with_line c.args.run (after_packet k c.args.packet.now c.args.bytes.now c.args.now h) f.lines in
+    let l = lines_with c.args.run (history_after_packet k c.args.packet.now c.args.bytes.now c.args.now h) f.lines in
     let g : Following = record { streams = c.completed.new.self; runs = c.turn.new.self } in
     let m : Follows = record { streams = f.streams; lines = l } in
     let is = c.is_complete.ensures k.params.clock a (c.arrival-answer.ensures.answer f.lines s.lines) in

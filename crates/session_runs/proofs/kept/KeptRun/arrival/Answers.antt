@@ -6,7 +6,7 @@ use Rattle.stream_numbers.specs.Streams.{place_of}
 use Rattle.stream_run.specs.Entries.{heard_of, timed_of}
 use Rattle.session_runs.specs.Histories.{Config, answer_in, gaps_after, is_heard, until_after}
 use Rattle.session_runs.specs.Unheard.{after_heard}
-use Rattle.session_runs.specs.Kept.{IsAnswer, config_in}
+use Rattle.session_runs.specs.Kept.{IsAnswerOf, config_in}
 use Rattle.session_runs.proofs.Answering.{answered}
 use Rattle.session_runs.proofs.Configs.{same}
 use Rattle.session_runs.proofs.kept.KeptRun.arrival.Goals as goal
@@ -14,7 +14,7 @@ use Rattle.session_runs.proofs.kept.KeptRun.arrival.Goals as goal
 pub returns-clause-answer : goal.returns-clause-answer
 returns-clause-answer c = λ h s.
     let r = c.args.self.now.run in
-    subst (λ (k : Config). IsAnswer k.params.clock c.arrival-answer.result
+    subst (λ (k : Config). IsAnswerOf k.params.clock c.arrival-answer.result
     (answer_in k c.args.packet.now c.args.bytes.now c.args.now h))
     c.requires.kept.config
     (answered r.timed.receiver.params h.first r.lead (timed_of r.numbers.rate h.first r.lead h.past)
@@ -25,7 +25,7 @@ pub returns-clause-stands : goal.returns-clause-stands
 returns-clause-stands c = λ h s.
     let p = c.args.settings.now.params in
     let a = answer_in (config_in c.args.settings.now) c.args.packet.now c.args.bytes.now c.args.now h in
-    let is : IsAnswer p.clock c.arrival-answer.result a = returns-clause-answer c h s in
+    let is : IsAnswerOf p.clock c.arrival-answer.result a = returns-clause-answer c h s in
     record {
       run = c.arrival-answer.ensures.stands h.first h.past s.run;
       until = c.until_after-self.ensures p.clock a is ∙ ap (λ (n : ℕ). until_after a p.lead n) s.until;

@@ -2,7 +2,7 @@ use Rattle.std.proofs.Common.{ℕ, ◌+◌, ◌∷◌, ap, sym, subst, ◌∙◌
 use Rattle.h263_types.specs.declared.params.Params.{Params}
 use Rattle.packet_gaps.specs.Kept.{GapsStand, Played}
 use Rattle.stream_run.specs.Entries.{Shown}
-use Rattle.session_runs.specs.Histories.{Config, next_in}
+use Rattle.session_runs.specs.Histories.{Config, next_number_in}
 use Rattle.session_runs.proofs.Configs.{same}
 use Rattle.session_runs.proofs.kept.KeptRun.play.Goals as goal
 
@@ -19,6 +19,7 @@ returns-clause-stands c = λ h s.
       until = s.until;
       unheard = s.unheard;
       gaps = subst (λ (n : ℕ). GapsStand c.played.new.self (Played n ∷ h.gaps))
-          (c.next.ensures.run h.first (Shown c.args.now ∷ h.past) run ∙ ap (λ (x : Config). next_in x h + 1) config)
+          (c.next.ensures.run h.first (Shown c.args.now ∷ h.past) run
+          ∙ ap (λ (x : Config). next_number_in x h + 1) config)
           (c.played.ensures.stands h.gaps s.gaps);
     }

@@ -8,7 +8,7 @@ use Rattle.call_model.specs.Coding as call
 use Rattle.call_decoding.specs.Styles.{Style}
 use Rattle.stream_audit.specs.declared.kept.Kept.{Kept}
 use Rattle.receiver_end.specs.Decoding.{decoding, piece_of, with_piece}
-use Rattle.stream_audit.specs.State.{Spells, Stands}
+use Rattle.stream_audit.specs.State.{SpellsSlice, StandsForLog}
 use Rattle.stream_audit.proofs.Standing.{judged}
 use Rattle.stream_audit.proofs.audit.Audit.packet.Goals as goal
 
@@ -19,7 +19,7 @@ returns-in-Ok-clause-stands c = λ past stands.
     let out = c.read_packet.new.out in
     let piece = c.in-Ok.piece in
     let q : call.Piece Style Mb = piece_of (slice_in piece out) in
-    let mine : Stands k past = subst (λ (x : Kept). Stands x past) (sym c.self.view_is) stands in
+    let mine : StandsForLog k past = subst (λ (x : Kept). StandsForLog x past) (sym c.self.view_is) stands in
     let keeps = mine.keeps c.in_default.is in
     let read : (decoding k.params.format).read bytes ≡ Ok q = ap with_piece c.in-Ok.ensures.exact in
     let sized : length out ≡ mbs_of k.params.format = c.read_packet.ensures.size
@@ -28,7 +28,7 @@ returns-in-Ok-clause-stands c = λ past stands.
     let within : piece.head.first + piece.head.count ≤ mbs_of k.params.format =
     subst (λ (f : Format). piece.head.first + piece.head.count ≤ mbs_of f) range.of-format range.slice.head.within
     in
-    let spells : Spells piece q = record {
+    let spells : SpellsSlice piece q = record {
       header = refl;
       first = refl;
       count = length-take-le piece.head.count (drop piece.head.first out)

@@ -11,7 +11,7 @@ use Rattle.call_decoding.specs.Rules.{rules_of}
 use Rattle.call_decoding.specs.Samples.{pictures}
 use Rattle.call_encoding.specs.Messages.{read_message}
 use Rattle.stream_audit.specs.declared.kept.Kept.{Kept}
-use Rattle.stream_audit.specs.State.{Fits, Keeps}
+use Rattle.stream_audit.specs.State.{AuditFits, AuditKeeps}
 use Rattle.stream_audit.specs.Stream.{Picture, begun_by, known_of}
 use Rattle.stream_audit.proofs.Adding.{begun, none_at_first}
 use Rattle.stream_audit.proofs.Beginning.{fresh_next}
@@ -53,7 +53,7 @@ returns-clause-fits c =
     let collects : Collects c.add.new.self k.pictures (t ∷ fits.taken) =
     subst (λ (n : ℕ). Collects c.add.new.self k.pictures (record { number = n; piece = piece } ∷ fits.taken)) count
     (c.add.ensures.taken k.pictures fits.taken (c.make_room.ensures.collects fits.taken fits.collects)) in
-    subst (λ (x : Kept). Fits (record x {
+    subst (λ (x : Kept). AuditFits (record x {
       pictures = x.pictures + 1;
       tr = Some piece.header.tr;
       collector = c.add.new.self;
@@ -89,7 +89,7 @@ returns-clause-keeps c = λ items part keeps spells.
     let coded : SelectorStands rules c.coded.new.self (k'.pictures + 1) (λ m. 0) (is_among known) =
     c.coded.ensures rules (λ (m : ℕ). 0) (is_among known) refl unknown before in
     let absent = c.make_room.ensures.absent keeps.taken keeps.collects (none_at_first k items keeps) in
-    subst (λ (x : Kept). Keeps (record x {
+    subst (λ (x : Kept). AuditKeeps (record x {
       pictures = x.pictures + 1;
       tr = Some piece.header.tr;
       collector = c.add.new.self;

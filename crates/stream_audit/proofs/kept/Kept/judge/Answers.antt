@@ -1,6 +1,6 @@
 use Rattle.std.proofs.Common.{rules, ◌≡◌, ◌∙◌, ℕ, ◌-◌, true, Some, None, sym, ap}
 use Rattle.stream_audit.specs.declared.kept.Kept.{Kept}
-use Rattle.stream_audit.specs.Stream.{is_of, last_picture}
+use Rattle.stream_audit.specs.Stream.{is_of_piece, last_picture}
 use Rattle.stream_audit.specs.Verdict.{broken_at}
 use Rattle.stream_audit.proofs.Standing.{none_left}
 use Rattle.stream_audit.proofs.Judged.{at_own, kept_own, one_header, own_picture}
@@ -11,7 +11,7 @@ returns-in-Some-clause-judged c = λ items part keeps spells.
     let k = c.args.self.now in
     let piece = c.args.piece.now in
     let same : piece.header.clock ≡ k.params.clock = search (rules, c.is_of_clock.ensures) in
-    let own : is_of (last_picture items) part.piece
+    let own : is_of_piece (last_picture items) part.piece
     ≡ true = sym (c.is_of_last.ensures.value items part.piece keeps spells) ∙ c.if-is_of_last.true in
     let p = own_picture k items part piece keeps spells own in
     let broken : c.breaks-in-Some.new.self.broken ≡ Some (broken_at (k.pictures - 1) c.in-Some.rule) =
@@ -28,7 +28,7 @@ returns-in-None-clause-judged c = λ items part keeps spells.
     let k = c.args.self.now in
     let piece = c.args.piece.now in
     let same : piece.header.clock ≡ k.params.clock = search (rules, c.is_of_clock.ensures) in
-    let own : is_of (last_picture items) part.piece
+    let own : is_of_piece (last_picture items) part.piece
     ≡ true = sym (c.is_of_last.ensures.value items part.piece keeps spells) ∙ c.if-is_of_last.true in
     let p = own_picture k items part piece keeps spells own in
     let unbroken = c.in-None.ensures.rule items p.0 part.piece keeps p.1 spells in

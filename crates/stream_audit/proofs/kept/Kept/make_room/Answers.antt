@@ -1,6 +1,6 @@
 use Rattle.std.proofs.Common.{◌≡◌, ℕ, ◌+◌, ◌-◌, false, sym, subst, arith}
 use Rattle.packet_collector.specs.Collected.{Collects}
-use Rattle.packet_collector.specs.Taken.{has_any}
+use Rattle.packet_collector.specs.Taken.{is_any_taken}
 use Rattle.stream_audit.proofs.Beginning.{absent_after}
 use Rattle.stream_audit.proofs.kept.Kept.make_room.Goals as goal
 
@@ -24,4 +24,4 @@ returns-else-self-gt0-clause-absent c = λ taken collects first.
     let k = c.args.self.now in
     let none = c.if-self-gt0.false in
     let zero : k.pictures ≡ 0 = omega (arith, none) in
-    subst (λ (n : ℕ). has_any taken n ≡ false) (sym zero) (first zero)
+    subst (λ (n : ℕ). is_any_taken taken n ≡ false) (sym zero) (first zero)

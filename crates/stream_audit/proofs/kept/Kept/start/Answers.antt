@@ -1,11 +1,11 @@
 use Rattle.std.proofs.Common.{◌≡◌, ℕ, false, [], refl, arith}
-use Rattle.packet_collector.specs.Taken.{has_any}
+use Rattle.packet_collector.specs.Taken.{is_any_taken}
 use Rattle.call_model.specs.CodedPictures.{is_among}
 use Rattle.call_decoding.specs.Rules.{rules_of}
 use Rattle.stream_audit.proofs.kept.Kept.start.Goals as goal
 
-none_taken : (n : ℕ) → has_any [] n ≡ false
-unfolding has_any
+none_taken : (n : ℕ) → is_any_taken [] n ≡ false
+unfolding is_any_taken
 none_taken n = refl
 
 pub returns-clause-fits : goal.returns-clause-fits
